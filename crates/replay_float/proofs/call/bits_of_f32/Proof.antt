@@ -1,0 +1,20 @@
+-- A value that equals itself is no NaN, so it has one pattern. Assumes nothing.
+use Rattle.float.specs.Choice.{equals-itself}
+use borrow.Author.Needs.{needs}
+use Rattle.replay_float.proofs.call.bits_of_f32.Statement.{statement}
+use Rattle.replay_float.proofs.call.bits_of_f32.Tie as tie
+
+returns : tie.Need-returns
+returns c = search needs
+
+float-to-bits-wide : tie.Need-float-to-bits-wide
+float-to-bits-wide c = equals-itself (c .before .args .x) (c .if1 .left)
+
+wide-requires : tie.Need-wide-requires
+wide-requires c κs = search needs
+
+returns-2 : tie.Need-returns-2
+returns-2 c = search needs
+
+pub bits-of-f32-spec : {M : Type 1} → statement M
+bits-of-f32-spec = tie.close (tie.spec returns float-to-bits-wide wide-requires returns-2)

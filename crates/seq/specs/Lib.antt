@@ -1,0 +1,5 @@
+pub mod Tab
+pub mod Part
+pub mod Sum
+pub mod Table
+pub mod Rows

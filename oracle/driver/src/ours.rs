@@ -1,0 +1,59 @@
+//! Our functions, as the crate `stages` exports them, each where the archive has it.
+//!
+//! A Rattle slice passes as a pointer and then a length.
+
+/// A function of ours.
+pub struct Ours<F> {
+    pub name: &'static str,
+    /// Where the archive has it.
+    pub function: Option<F>,
+}
+
+macro_rules! ours {
+    ($($name:ident($($type:ty),*) $(-> $out:ty)?;)*) => {
+        $(
+            #[allow(non_upper_case_globals)]
+            pub const $name: Ours<unsafe extern "C" fn($($type),*) $(-> $out)?> = {
+                #[cfg($name)]
+                unsafe extern "C" {
+                    fn $name($(_: $type),*) $(-> $out)?;
+                }
+                #[cfg($name)]
+                let function = Some($name as _);
+                #[cfg(not($name))]
+                let function = None;
+                Ours { name: stringify!($name), function }
+            };
+        )*
+
+        const DECLARED: &[&str] = &[$(stringify!($name)),*];
+    };
+}
+
+ours! {
+    vk_round_f32(f32) -> f32;
+    vk_floor_f32(f32) -> f32;
+    vk_min_f32(f32, f32) -> f32;
+    vk_round_to_u8(f32) -> u8;
+    // The values, and as many samples; nothing is written where the numbers differ.
+    vk_round_all_to_u8(*const f32, usize, *mut u8, usize);
+    vk_f32_from_bits(u32) -> f32;
+    vk_in_unit(f32) -> bool;
+    vk_floor_f64_to_i64(f64) -> i64;
+    vk_ceil_f64_to_i64(f64) -> i64;
+    vk_max_f64(f64, f64) -> f64;
+    vk_abs_f64(f64) -> f64;
+    vk_narrow_f64(f64) -> f32;
+
+    vk_crc32(*const u8, usize) -> u32;
+
+    // Key, counter, nonce, and the 64 bytes of the block.
+    vk_chacha20_block(*const u8, usize, u32, *const u8, usize, *mut u8, usize);
+    // Key, nonce, position in the stream, and the bytes; 0, or 14 where the stream ends before the last.
+    vk_chacha20_apply(*const u8, usize, *const u8, usize, u64, *mut u8, usize) -> u8;
+}
+
+/// The functions that the archive has and that are not compared.
+pub fn undeclared() -> impl Iterator<Item = &'static str> {
+    env!("VAIKELOMU_SYMBOLS").split_whitespace().filter(|symbol| !DECLARED.contains(symbol))
+}

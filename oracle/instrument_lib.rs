@@ -1,0 +1,3 @@
+
+/// Appended by `oracle/build` to a copy of this file: what it appended to the other.
+pub use resilient::stages;

@@ -1,0 +1,229 @@
+//! Writes the lists that the gate's replay programs hold ours to: `vectors FOLDER PUBLISHED RUSTC`.
+//!
+//! FOLDER gets a folder for each replay program, PUBLISHED holds the vectors of public documents, and
+//! RUSTC is the release that is named in each list.
+
+use std::fs;
+use std::path::Path;
+
+use judge::random::Random;
+use judge::{cipher, crc32, edges, hex};
+
+/// A replay program reads a list whole into a buffer of this size.
+const LARGEST: usize = 64 * 1_024;
+/// The end of a keystream: 2^32 blocks of 64 bytes.
+const END: u64 = 1 << 38;
+
+/// A list of cases, a line each.
+struct List {
+    program: &'static str,
+    name: &'static str,
+    about: &'static str,
+    lines: Vec<String>,
+}
+
+impl List {
+    fn text(&self, rustc: &str) -> String {
+        let about = self.about.replace('\n', "\n# ");
+        let cases = self.lines.join("\n");
+        format!("# {}: {about}\n# Made by oracle/vectors with {rustc}.\n{cases}\n", self.name)
+    }
+
+    fn write(&self, folder: &Path, rustc: &str) -> std::io::Result<()> {
+        let text = self.text(rustc);
+        assert!(text.len() < LARGEST, "{} has {} bytes", self.name, text.len());
+        let data = folder.join(self.program).join("data");
+        fs::create_dir_all(&data)?;
+        fs::write(data.join(format!("{}.txt", self.name)), text)?;
+        println!("{} {}: {} cases", self.program, self.name, self.lines.len());
+        Ok(())
+    }
+}
+
+/// A NaN is written as the one NaN of each width, since a NaN counts as a NaN.
+fn single(value: f32) -> String {
+    let value = if value.is_nan() { f32::NAN } else { value };
+    format!("{:08x}", value.to_bits())
+}
+
+fn double(value: f64) -> String {
+    let value = if value.is_nan() { f64::NAN } else { value };
+    format!("{:016x}", value.to_bits())
+}
+
+fn of_singles(patterns: Vec<u32>, answer: impl Fn(f32) -> String) -> Vec<String> {
+    patterns
+        .into_iter()
+        .map(|bits| format!("{bits:08x} {}", answer(f32::from_bits(bits))))
+        .collect()
+}
+
+fn of_doubles(patterns: Vec<u64>, answer: impl Fn(f64) -> String) -> Vec<String> {
+    patterns
+        .into_iter()
+        .map(|bits| format!("{bits:016x} {}", answer(f64::from_bits(bits))))
+        .collect()
+}
+
+fn single_lists() -> Vec<List> {
+    let list = |name, about, lines| List { program: "replay_float", name, about, lines };
+    vec![
+        list(
+            "round_f32",
+            "an f32 and its round(), halves away from zero.",
+            of_singles(edges::singles(), |value| single(value.round())),
+        ),
+        list(
+            "floor_f32",
+            "an f32 and its floor().",
+            of_singles(edges::singles(), |value| single(value.floor())),
+        ),
+        list(
+            "round_to_u8",
+            "an f32 and the sample round().clamp(0.0, 255.0) as u8.",
+            of_singles(edges::samples(), |value| {
+                format!("{:02x}", value.round().clamp(0.0, 255.0) as u8)
+            }),
+        ),
+        list(
+            "in_unit",
+            "an f32 and 1 where it is a number from -1 to 1, else 0.",
+            of_singles(edges::singles(), |value| {
+                u8::from((-1.0..=1.0).contains(&value)).to_string()
+            }),
+        ),
+        list(
+            "f32_from_bits",
+            "32 bits and the f32 that they are; every NaN is written as 7fc00000.",
+            of_singles(edges::singles(), single),
+        ),
+    ]
+}
+
+fn double_lists() -> Vec<List> {
+    let list = |name, about, lines| List { program: "replay_float", name, about, lines };
+    vec![
+        list(
+            "floor_f64_to_i64",
+            "an f64 and its floor() as i64, in two's complement.",
+            of_doubles(edges::doubles(), |value| format!("{:016x}", value.floor() as i64)),
+        ),
+        list(
+            "ceil_f64_to_i64",
+            "an f64 and its ceil() as i64, in two's complement.",
+            of_doubles(edges::doubles(), |value| format!("{:016x}", value.ceil() as i64)),
+        ),
+        list(
+            "abs_f64",
+            "an f64 and its abs().",
+            of_doubles(edges::doubles(), |value| double(value.abs())),
+        ),
+        list(
+            "narrow_f64",
+            "an f64 and the same as f32, ties to even; every NaN is written as 7fc00000.",
+            of_doubles(edges::narrowing(), |value| single(value as f32)),
+        ),
+    ]
+}
+
+/// A message of each length, by chance, and its checksum.
+fn checksums(lengths: std::ops::RangeInclusive<usize>) -> Vec<String> {
+    lengths
+        .map(|length| {
+            let message = Random::new(length as u64).bytes(length);
+            format!("{} {:08x}", hex::of_bytes(&message), crc32(&message))
+        })
+        .collect()
+}
+
+/// The check value of CRC-32, and messages of 0 to 300 bytes.
+fn crc32_lists() -> Vec<List> {
+    let about = "a message and its CRC-32, low bit first.\n\
+                 The answers are those of the stand-in, which oracle/check-stand-ins holds to zlib's.";
+    let list = |name, lines| List { program: "replay_crc32", name, about, lines };
+    let check = format!("{} {:08x}", hex::of_bytes(b"123456789"), crc32(b"123456789"));
+    let short = std::iter::once(check).chain(checksums(0..=200)).collect();
+    vec![list("crc32_to_200", short), list("crc32_to_300", checksums(201..=300))]
+}
+
+/// The cases of a published list, without what is said about each.
+fn published(folder: &Path, name: &str) -> std::io::Result<Vec<String>> {
+    let text = fs::read_to_string(folder.join(name))?;
+    let cases = text.lines().filter(|line| !line.starts_with('#'));
+    Ok(cases.map(str::to_owned).collect())
+}
+
+/// Requests around the end of a keystream, and the bytes afterwards.
+fn stream_end() -> Vec<String> {
+    let parts = [
+        (END - 64, 64),
+        (END - 64, 65),
+        (END - 65, 65),
+        (END - 65, 66),
+        (END - 1, 1),
+        (END - 1, 2),
+        (END, 0),
+        (END, 1),
+        (END + 1, 0),
+        (END + 1, 1),
+        (u64::MAX, 0),
+        (u64::MAX, 1),
+    ];
+    let mut random = Random::new(1);
+    parts
+        .into_iter()
+        .map(|(position, length)| {
+            let (key, nonce) = (random.array(), random.array());
+            let before = random.bytes(length);
+            let mut after = before.clone();
+            let number = match cipher::apply(&key, &nonce, position, &mut after) {
+                Ok(()) => 0,
+                Err(refused) => refused.number,
+            };
+            let (key, nonce) = (hex::of_bytes(&key), hex::of_bytes(&nonce));
+            let (before, after) = (hex::of_bytes(&before), hex::of_bytes(&after));
+            format!("{key} {nonce} {position:016x} {before} {number:02x} {after}")
+        })
+        .collect()
+}
+
+fn chacha20_lists(folder: &Path) -> std::io::Result<Vec<List>> {
+    let list = |name, about, lines| List { program: "replay_chacha20", name, about, lines };
+    Ok(vec![
+        list(
+            "quarter_round",
+            "RFC 8439, 2.1.1, and 2.2.1 on words 2, 7, 8, 13 of its state:\n\
+             four words, then the four that they become.",
+            published(folder, "quarter_round.txt")?,
+        ),
+        list(
+            "rfc8439",
+            "RFC 8439, 2.3.2, 2.4.2, A.1 #1 to #5, A.2 #1 to #3:\n\
+             key, nonce, first byte of the keystream, plaintext, ciphertext.",
+            published(folder, "chacha20.txt")?,
+        ),
+        list(
+            "stream_end",
+            "requests around the end of the keystream, 2^38 bytes:\n\
+             key, nonce, first byte of the keystream, bytes, 00 or the refusal 0e, bytes afterwards.\n\
+             The answers are those of the stand-in; the real crate's end could not be compared.",
+            stream_end(),
+        ),
+    ])
+}
+
+fn main() -> std::io::Result<()> {
+    let words: Vec<String> = std::env::args().skip(1).collect();
+    let [folder, published, rustc] = &words[..] else {
+        eprintln!("vectors: FOLDER PUBLISHED RUSTC");
+        std::process::exit(2);
+    };
+    let mut lists = single_lists();
+    lists.extend(double_lists());
+    lists.extend(crc32_lists());
+    lists.extend(chacha20_lists(Path::new(published))?);
+    for list in lists {
+        list.write(Path::new(folder), rustc)?;
+    }
+    Ok(())
+}

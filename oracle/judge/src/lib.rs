@@ -1,0 +1,12 @@
+//! The Rust as the judge: its stages, and in front of them the refusals that document 01 adds.
+
+pub mod cipher;
+pub mod edges;
+pub mod hex;
+pub mod picture;
+pub mod random;
+pub mod refusal;
+pub mod resilient;
+
+pub use crc32fast::hash as crc32;
+pub use instrumented::stages;
