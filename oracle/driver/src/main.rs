@@ -1,8 +1,12 @@
-//! Feeds the Rust and ours the same inputs: `driver compare SEED SCALE`, or `driver floats`.
+//! Feeds the Rust and ours the same inputs: `driver compare SEED SCALE`, or `driver floats`; and runs demand 3's smallest
+//! faults on ours: `driver faults RECORDS`.
 
 mod chacha20;
+mod convolution;
 mod crc32;
+mod faults;
 mod float;
+mod layout;
 mod lent;
 mod ours;
 mod sweep;
@@ -16,12 +20,16 @@ use tally::Tally;
 type Stage = fn(&mut Random, u64) -> Tally;
 
 /// The stages in the order of the crates.
-const STAGES: [(&str, Stage); 3] =
-    [("float", float::compare), ("crc32", crc32::compare), ("chacha20", chacha20::compare)];
+const STAGES: [(&str, Stage); 5] = [
+    ("float", float::compare),
+    ("crc32", crc32::compare),
+    ("chacha20", chacha20::compare),
+    ("layout", layout::compare),
+    ("convolution", convolution::compare),
+];
 
 /// The stages whose comparison comes with their crate.
-const LATER: [&str; 8] =
-    ["utf8", "record", "layout", "convolution", "block", "resample", "resilient", "votes"];
+const LATER: [&str; 6] = ["utf8", "record", "block", "resample", "resilient", "votes"];
 
 fn compare(seed: u64, scale: u64) -> Tally {
     let mut total = Tally::default();
@@ -40,22 +48,21 @@ fn compare(seed: u64, scale: u64) -> Tally {
     total
 }
 
+fn run(words: &[&str]) -> Option<Tally> {
+    match words {
+        ["compare", seed, scale] => Some(compare(seed.parse().ok()?, scale.parse().ok()?)),
+        ["floats"] => Some(sweep::compare()),
+        ["faults", records] => Some(faults::run(records.parse().ok()?)),
+        _ => None,
+    }
+}
+
 fn main() -> ExitCode {
     let words: Vec<String> = std::env::args().skip(1).collect();
     let words: Vec<&str> = words.iter().map(String::as_str).collect();
-    let total = match words[..] {
-        ["compare", seed, scale] => match (seed.parse(), scale.parse()) {
-            (Ok(seed), Ok(scale)) => compare(seed, scale),
-            _ => {
-                eprintln!("driver: SEED and SCALE are numbers");
-                return ExitCode::from(2);
-            }
-        },
-        ["floats"] => sweep::compare(),
-        _ => {
-            eprintln!("driver: compare SEED SCALE, or floats");
-            return ExitCode::from(2);
-        }
+    let Some(total) = run(&words) else {
+        eprintln!("driver: compare SEED SCALE, floats, or faults RECORDS");
+        return ExitCode::from(2);
     };
     println!("{} compared, {} different", total.compared, total.different);
     ExitCode::from(u8::from(total.different > 0))

@@ -51,6 +51,13 @@ ours! {
     vk_chacha20_block(*const u8, usize, u32, *const u8, usize, *mut u8, usize);
     // Key, nonce, position in the stream, and the bytes; 0, or 14 where the stream ends before the last.
     vk_chacha20_apply(*const u8, usize, *const u8, usize, u64, *mut u8, usize) -> u8;
+
+    vk_block_bits(&[u8; 748], &mut [u8; 1024]);
+    vk_gather(&[f32; 1024], &mut [f32; 748]);
+
+    vk_encode(&[u8; 46], &mut [u8; 748]);
+    // The votes, and the record; the metric with which state 0 ended.
+    vk_decode(&[f32; 748], &mut [u8; 46]) -> f32;
 }
 
 /// The functions that the archive has and that are not compared.

@@ -7,6 +7,7 @@ pub mod picture;
 pub mod random;
 pub mod refusal;
 pub mod resilient;
+pub mod soft;
 
 pub use crc32fast::hash as crc32;
 pub use instrumented::stages;

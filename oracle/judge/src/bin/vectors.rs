@@ -7,10 +7,11 @@ use std::fs;
 use std::path::Path;
 
 use judge::random::Random;
-use judge::{cipher, crc32, edges, hex};
+use judge::soft::{damaged, sure, votes};
+use judge::{cipher, crc32, edges, hex, stages};
 
 /// A replay program reads a list whole into a buffer of this size.
-const LARGEST: usize = 64 * 1_024;
+const LARGEST: usize = 256 * 1_024;
 /// The end of a keystream: 2^32 blocks of 64 bytes.
 const END: u64 = 1 << 38;
 
@@ -140,10 +141,73 @@ fn checksums(lengths: std::ops::RangeInclusive<usize>) -> Vec<String> {
 fn crc32_lists() -> Vec<List> {
     let about = "a message and its CRC-32, low bit first.\n\
                  The answers are those of the stand-in, which oracle/check-stand-ins holds to zlib's.";
-    let list = |name, lines| List { program: "replay_crc32", name, about, lines };
     let check = format!("{} {:08x}", hex::of_bytes(b"123456789"), crc32(b"123456789"));
-    let short = std::iter::once(check).chain(checksums(0..=200)).collect();
-    vec![list("crc32_to_200", short), list("crc32_to_300", checksums(201..=300))]
+    let lines = std::iter::once(check).chain(checksums(0..=300)).collect();
+    vec![List { program: "replay_crc32", name: "crc32", about, lines }]
+}
+
+/// Records of all kinds: each bit alone, all bits, and by chance.
+fn records() -> Vec<[u8; 46]> {
+    let mut records = vec![[0; 46], [0xff; 46]];
+    for bit in [0, 1, 7, 8, 100, 183, 366, 367] {
+        let mut record = [0; 46];
+        record[bit / 8] = 0x80 >> (bit % 8);
+        records.push(record);
+    }
+    let mut random = Random::new(46);
+    records.extend((0..40).map(|_| random.array::<46>()));
+    records
+}
+
+/// Coded bits eight to a byte, the first in the high bit, and four zeros behind the last.
+fn packed(coded: &[u8; 748]) -> Vec<u8> {
+    coded
+        .chunks(8)
+        .map(|bits| bits.iter().enumerate().map(|(place, bit)| bit << (7 - place)).sum())
+        .collect()
+}
+
+fn floats(values: &[f32]) -> String {
+    values.iter().map(|&value| single(value)).collect()
+}
+
+fn decoded(soft: &[f32; 748]) -> String {
+    let record = hex::of_bytes(&stages::decode(soft));
+    format!("{} {record} {}", floats(soft), single(stages::final_metric(soft)))
+}
+
+/// Clean words, damaged ones, and votes of every kind.
+fn decodings() -> Vec<String> {
+    let mut random = Random::new(748);
+    let mut lines = Vec::new();
+    for record in records().into_iter().take(8) {
+        lines.push(decoded(&stages::encode(&record).map(sure)));
+        lines.push(decoded(&damaged(&mut random, &record)));
+    }
+    lines.extend((0..24).map(|case| decoded(&votes(&mut random, case))));
+    lines
+}
+
+fn convolution_lists() -> Vec<List> {
+    let list = |name, about, lines| List { program: "replay_convolution", name, about, lines };
+    vec![
+        list(
+            "encode",
+            "a record of 46 bytes and its 748 coded bits, eight to a byte, four zeros behind the last.",
+            records()
+                .iter()
+                .map(|record| {
+                    let coded = packed(&stages::encode(record));
+                    format!("{} {}", hex::of_bytes(record), hex::of_bytes(&coded))
+                })
+                .collect(),
+        ),
+        list(
+            "decode",
+            "748 votes, the record decoded, and the metric with which state 0 ended.",
+            decodings(),
+        ),
+    ]
 }
 
 /// The cases of a published list, without what is said about each.
@@ -222,6 +286,7 @@ fn main() -> std::io::Result<()> {
     lists.extend(double_lists());
     lists.extend(crc32_lists());
     lists.extend(chacha20_lists(Path::new(published))?);
+    lists.extend(convolution_lists());
     for list in lists {
         list.write(Path::new(folder), rustc)?;
     }

@@ -1,0 +1,134 @@
+//! Times each stage of the port beside the Rust that it replaces. The two sides take turns on the same input,
+//! and a row is printed only where they gave the same output.
+
+use std::hint::black_box;
+use std::time::Instant;
+
+use judge::random::Random;
+use judge::soft::damaged;
+use judge::{crc32, stages};
+
+unsafe extern "C" {
+    fn vk_round_all_to_u8(from: *const f32, from_len: usize, to: *mut u8, to_len: usize);
+    fn vk_crc32(bytes: *const u8, len: usize) -> u32;
+    fn vk_encode(record: &[u8; 46], coded: &mut [u8; 748]);
+    fn vk_decode(soft: &[f32; 748], record: &mut [u8; 46]) -> f32;
+}
+
+/// Runs the two in turn and prints the medians in milliseconds and their ratio.
+fn row(name: &str, runs: usize, mut ours: impl FnMut(), mut rust: impl FnMut()) {
+    let (mut our_times, mut rust_times) = (Vec::new(), Vec::new());
+    for _ in 0..runs {
+        our_times.push(timed(&mut ours));
+        rust_times.push(timed(&mut rust));
+    }
+    let (our, rust) = (median(our_times), median(rust_times));
+    println!("{name:<40} {our:>10.3} {rust:>10.3} {:>8.2}", our / rust);
+}
+
+fn timed(run: &mut impl FnMut()) -> f64 {
+    let start = Instant::now();
+    run();
+    start.elapsed().as_secs_f64() * 1e3
+}
+
+fn median(mut times: Vec<f64>) -> f64 {
+    times.sort_by(f64::total_cmp);
+    times[times.len() / 2]
+}
+
+/// Values around the range of a sample.
+fn round_to_u8(runs: usize) {
+    let mut random = Random::new(1);
+    let from: Vec<f32> =
+        (0..1 << 24).map(|_| random.below(262_000) as f32 / 1000.0 - 3.0).collect();
+    let (mut ours, mut rust) = (vec![0u8; from.len()], vec![0u8; from.len()]);
+    row(
+        "round to u8, 16,777,216 values",
+        runs,
+        || unsafe {
+            vk_round_all_to_u8(from.as_ptr(), from.len(), ours.as_mut_ptr(), ours.len());
+            black_box(&ours);
+        },
+        || {
+            for (to, x) in rust.iter_mut().zip(&from) {
+                *to = x.round().clamp(0.0, 255.0) as u8;
+            }
+            black_box(&rust);
+        },
+    );
+    assert_eq!(ours, rust);
+}
+
+/// Messages of one length; the Rust is the stand-in's, a byte at a time.
+fn checksums(runs: usize, length: usize, count: usize) {
+    let messages = Random::new(2).bytes(length + count);
+    let (mut ours, mut rust) = (0, 0);
+    row(
+        &format!("crc32, {count} x {length} bytes"),
+        runs,
+        || {
+            let sums = messages.windows(length).take(count);
+            ours = sums.fold(0, |sum, m| sum ^ unsafe { vk_crc32(m.as_ptr(), m.len()) });
+        },
+        || rust = messages.windows(length).take(count).fold(0, |sum, m| sum ^ crc32(m)),
+    );
+    assert_eq!(ours, rust);
+}
+
+fn encoder(runs: usize) {
+    let mut random = Random::new(3);
+    let records: Vec<[u8; 46]> = (0..1_000).map(|_| random.array()).collect();
+    let (mut ours, mut rust) = (vec![[0; 748]; 1_000], vec![[0; 748]; 1_000]);
+    row(
+        "encode, 1,000 records",
+        runs,
+        || {
+            for (record, coded) in records.iter().zip(&mut ours) {
+                unsafe { vk_encode(record, coded) };
+            }
+        },
+        || {
+            for (record, coded) in records.iter().zip(&mut rust) {
+                *coded = stages::encode(record);
+            }
+        },
+    );
+    assert_eq!(ours, rust);
+}
+
+fn decoder(runs: usize) {
+    let mut random = Random::new(4);
+    let soft: Vec<[f32; 748]> = (0..200)
+        .map(|_| {
+            let record = random.array();
+            damaged(&mut random, &record)
+        })
+        .collect();
+    let (mut ours, mut rust) = (vec![[0; 46]; 200], vec![[0; 46]; 200]);
+    row(
+        "decode, 200 vote sets",
+        runs,
+        || {
+            for (soft, record) in soft.iter().zip(&mut ours) {
+                unsafe { vk_decode(soft, record) };
+            }
+        },
+        || {
+            for (soft, record) in soft.iter().zip(&mut rust) {
+                *record = stages::decode(soft);
+            }
+        },
+    );
+    assert_eq!(ours, rust);
+}
+
+fn main() {
+    let runs = std::env::args().nth(1).map_or(15, |runs| runs.parse().expect("a number of runs"));
+    println!("{:<40} {:>10} {:>10} {:>8}", "stage", "ours ms", "Rust ms", "ratio");
+    round_to_u8(runs);
+    checksums(runs, 1 << 24, 1);
+    checksums(runs, 46, 10_000);
+    encoder(runs);
+    decoder(runs);
+}

@@ -1,0 +1,69 @@
+-- Long division gives THE remainder: the dividend is quotient times divisor plus remainder, and whatever quotient and
+-- remainder a dividend is made of, the division finds that remainder. Assumes nothing.
+use mathlib.Core.Path.{_≡_, refl, ap, ap₂, _∙_}
+use mathlib.Core.Bool.{Bool, true, false, _&&_}
+use mathlib.Core.List.{List, [], _∷_, _++_, tail}
+use Prim.Native.Nat.{ℕ, zero, suc, _+_, _≤_}
+use native.Mathlib.Nat.{zero-add}
+use native.Mathlib.Omega.{arith}
+use lib.ListN.{length, replicate, length-map, length-append}
+use Rattle.crc32.specs.Ieee8023.{plus, _⊕_, lead, scaled, remainder}
+use Rattle.crc32.specs.Sum.{both, sum-assoc, sum-comm, sum-twice, length-sum, sum-longer}
+
+-- the product: each coefficient of q times g, at its own place
+unfoldable pub times : List Bool → List Bool → List Bool
+times [] g = []
+times (c ∷ q) g = scaled c g ⊕ (false ∷ times q g)
+
+-- the quotient's n coefficients, as the long division finds them
+unfoldable pub quotient : ℕ → List Bool → List Bool → List Bool
+quotient zero g p = []
+quotient (suc n) g p = lead p ∷ quotient n g (tail (p ⊕ scaled (lead p) g))
+
+length-scaled : (c : Bool) (g : List Bool) → length (scaled c g) ≡ length g
+unfolding scaled
+length-scaled c g = length-map g (λ b. c && b)
+
+-- the leading coefficient of a product
+leading : (a : Bool) → plus (plus (a && true) false) false ≡ a
+leading false = refl
+leading true = refl
+
+-- a divisor of degree `length g`
+module _ (g : List Bool) where
+  pub length-remainder : (n : ℕ) (p : List Bool) → n + length g ≤ length p → n + length (remainder n (true ∷ g) p) ≡ length p
+  unfolding remainder _⊕_ lead scaled
+  length-remainder zero p h = zero-add (length p)
+  length-remainder (suc n) [] h = absurd (omega arith)
+  length-remainder (suc n) (a ∷ p) h =
+      let e : length (p ⊕ scaled a g) ≡ length p = length-sum p (scaled a g) (omega (arith, length-scaled a g)) in
+      omega (arith, length-remainder n (p ⊕ scaled a g) (omega (arith, e)), e)
+
+  pub remainder-exists : (n : ℕ) (p : List Bool) → n + length g ≤ length p
+      → times (quotient n (true ∷ g) p) (true ∷ g) ⊕ (replicate n false ++ remainder n (true ∷ g) p) ≡ p
+  unfolding times quotient remainder _⊕_ lead scaled
+  remainder-exists zero p h = refl
+  remainder-exists (suc n) [] h = absurd (omega arith)
+  remainder-exists (suc n) (a ∷ p) h =
+      let s = scaled a g in
+      let short : length s ≤ length p = omega (arith, length-scaled a g) in
+      let more : n + length g ≤ length (p ⊕ s) = omega (arith, length-sum p s short) in
+      both (leading a)
+      (sum-assoc s (times (quotient n (true ∷ g) (p ⊕ s)) (true ∷ g)) (replicate n false ++ remainder n (true ∷ g) (p ⊕ s))
+      ∙ ap (λ (t : List Bool). s ⊕ t) (remainder-exists n (p ⊕ s) more)
+      ∙ sum-comm s (p ⊕ s)
+      ∙ sum-twice p s short)
+
+  pub remainder-unique : (q r : List Bool) → length r ≡ length g
+      → remainder (length q) (true ∷ g) (times q (true ∷ g) ⊕ (replicate (length q) false ++ r)) ≡ r
+  unfolding times remainder _⊕_ lead scaled
+  remainder-unique [] r h = refl
+  remainder-unique (c ∷ q) r h =
+      let s = scaled c g in
+      let t = times q (true ∷ g) in
+      let z = replicate (length q) false ++ r in
+      let long : length s ≤ length (t ⊕ z) = omega (arith, length-scaled c g, length-append (replicate (length q) false) r, sum-longer t z) in
+      ap (remainder (length q) (true ∷ g))
+      (ap₂ (λ (y : List Bool) (b : Bool). y ⊕ scaled b g) (sum-assoc s t z ∙ sum-comm s (t ⊕ z)) (leading c)
+      ∙ sum-twice (t ⊕ z) s long)
+      ∙ remainder-unique q r h

@@ -1,0 +1,9 @@
+pub mod Ieee8023
+pub mod Vectors
+pub mod Sum
+pub mod Division
+pub mod Numbers
+pub mod Register
+pub mod Turns
+pub mod Bytes
+pub mod Table

@@ -1,0 +1,16 @@
+-- The constant is the layout, by its entries. Assumes nothing.
+use mathlib.Core.Path.{refl}
+use borrow.Author.Needs.{needs}
+use Rattle.layout.specs.Layout.{layout}
+use Rattle.layout.proofs.block_bits.Statement.{statement}
+use Rattle.layout.proofs.block_bits.Tie as tie
+
+lay-requires : tie.Need-lay-requires
+unfolding layout
+lay-requires c κs = refl
+
+returns : tie.Need-returns
+returns c = search needs
+
+pub block-bits-spec : {M : Type 1} → statement M
+block-bits-spec = tie.close (tie.spec lay-requires returns)

@@ -1,0 +1,82 @@
+-- The places passed are in the sums (`gather`); the measure is what is left. Assumes nothing.
+use mathlib.Core.Path.{_≡_, refl}
+use Prim.Native.Nat.{_-_, _≤_, _<_}
+use native.Mathlib.Omega.{arith}
+use lib.Ieee.{nan, ofBits}
+use lib.ListN.{length, length-set}
+use Rattle.layout.specs.Layout.{blockOf}
+use Rattle.layout.specs.Places.{gather, gatherF, gathered, through}
+use Rattle.layout.specs.Loops.{gather-more}
+use borrow.Author.Needs.{needs}
+use Rattle.layout.proofs.sum_places.Statement.{statement}
+use Rattle.layout.proofs.sum_places.Tie as tie
+
+abbrev Inv-loop : tie.InvT-loop
+Inv-loop votes table soft₀ j₀ soft j = (j ≤ 1024) × (length soft ≡ 748) × (soft ≡ gatherF 748 j (through blockOf 1024 nan votes))
+
+abbrev μ-loop : tie.MeasureT-loop
+μ-loop votes table soft₀ j₀ soft j = 1024 - j
+
+loop-holds : tie.Need-loop-holds Inv-loop μ-loop
+unfolding gather ofBits
+loop-holds c = (omega arith, refl, refl)
+
+block-requires : tie.Need-block-requires Inv-loop μ-loop
+block-requires c κs = search needs
+
+mul-soft : tie.Need-mul-soft Inv-loop μ-loop
+mul-soft c = search needs
+
+array-read-soft : tie.Need-array-read-soft Inv-loop μ-loop
+array-read-soft c = search needs
+
+mul-soft-2 : tie.Need-mul-soft-2 Inv-loop μ-loop
+mul-soft-2 c = search needs
+
+element-copy-out-soft : tie.Need-element-copy-out-soft Inv-loop μ-loop
+element-copy-out-soft c = search needs
+
+mul-soft-3 : tie.Need-mul-soft-3 Inv-loop μ-loop
+mul-soft-3 c = search needs
+
+array-write-soft : tie.Need-array-write-soft Inv-loop μ-loop
+array-write-soft c = search needs
+
+add-j : tie.Need-add-j Inv-loop μ-loop
+add-j c = search needs
+
+loop-less : tie.Need-loop-less Inv-loop μ-loop
+loop-less c = search needs
+
+loop-again : tie.Need-loop-again Inv-loop μ-loop
+loop-again c =
+    let l = c .before .before .before .loop in
+    let votes = c .before .before .before .before .args .votes .now in
+    let h : l .j < 1024 = omega arith in
+    (omega arith, simp length-set (l .inv .1), rw (c .before .block .ensures .0) (gather-more 748 (l .j) 1024 blockOf votes (l .soft) h (l .inv .2)))
+
+returns : tie.Need-returns Inv-loop μ-loop
+unfolding gathered
+returns c =
+    let l = c .before .loop in
+    let e : l .j ≡ 1024 = omega arith in
+    rw e at (l .inv .2)
+
+pub sum-places-spec : {M : Type 1} → statement M
+sum-places-spec =
+    tie.close
+    (tie.spec
+    Inv-loop
+    μ-loop
+    loop-holds
+    block-requires
+    mul-soft
+    array-read-soft
+    mul-soft-2
+    element-copy-out-soft
+    mul-soft-3
+    array-write-soft
+    add-j
+    loop-less
+    loop-again
+    returns)

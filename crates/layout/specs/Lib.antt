@@ -1,0 +1,4 @@
+pub mod Layout
+pub mod Permutation
+pub mod Places
+pub mod Loops

@@ -1,0 +1,46 @@
+// Crates `crc32`, `layout` and `convolution`.
+ghost use mathlib.Core.Path.{_≡_};
+ghost use Rattle.crc32.specs.Ieee8023.{crcOf};
+ghost use Rattle.layout.specs.Places.{blockBits, gathered};
+ghost use Rattle.convolution.specs.Ccsds131.{encodeOf};
+ghost use Rattle.convolution.specs.Decoder.{floats, decoded, strength};
+ghost use Rattle.convolution.specs.RecordBits.{recordOf};
+
+#[no_mangle]
+pub extern "C" fn vk_crc32(bytes: &[u8]) -> u32
+    ensures { λ r. ⌜ r ≡ crcOf (now (bytes .entry)) ⌝ }
+{
+    crc32::crc32(bytes)
+}
+
+#[no_mangle]
+pub extern "C" fn vk_block_bits(coded: &[u8; 748], bits: &mut [u8; 1024])
+    ensures { λ _. ⌜ now (bits .exit) ≡ blockBits 748 (now (coded .entry)) ⌝ }
+{
+    *bits = layout::block_bits(coded);
+}
+
+#[no_mangle]
+pub extern "C" fn vk_gather(votes: &[f32; 1024], soft: &mut [f32; 748])
+    ensures { λ _. ⌜ now (soft .exit) ≡ gathered 748 (now (votes .entry)) ⌝ }
+{
+    *soft = layout::gather(votes);
+}
+
+#[no_mangle]
+pub extern "C" fn vk_encode(bytes: &[u8; 46], coded: &mut [u8; 748])
+    ensures { λ _. ⌜ now (coded .exit) ≡ encodeOf (now (bytes .entry)) ⌝ }
+{
+    *coded = convolution::encoder::encode(bytes);
+}
+
+// The record, and the metric with which state 0 ended.
+#[no_mangle]
+pub extern "C" fn vk_decode(soft: &[f32; 748], bytes: &mut [u8; 46]) -> f32
+    ensures { λ r. ⌜ (now (bytes .exit) ≡ recordOf 46 (decoded floats (now (soft .entry)))) × (r ≡ strength floats (now (soft .entry))) ⌝ }
+{
+    let d = convolution::decoder::decode(soft);
+    let found = d.bytes;
+    *bytes = found;
+    d.metric
+}

@@ -1,0 +1,51 @@
+//! The stage layout: coded bits to blocks, and the blocks' votes to those of coded bits.
+
+use judge::random::Random;
+use judge::soft::votes;
+use judge::stages;
+
+use crate::ours;
+use crate::tally::{Tally, Value};
+
+/// Random words and vote sets at scale 1.
+const CASES: u64 = 5_000;
+
+fn compare_bits(random: &mut Random, scale: u64, tally: &mut Tally) {
+    let Some(ours) = ours::vk_block_bits.function else {
+        tally.missing.push(ours::vk_block_bits.name);
+        return;
+    };
+    for case in 0..scale * CASES {
+        // Any bytes: the Rust carries them as they are.
+        let coded: [u8; 748] = random.array();
+        let mut bits = random.array();
+        unsafe { ours(&coded, &mut bits) };
+        let theirs = stages::block_bits(&coded);
+        tally.count(bits == theirs, || {
+            let first = (0..1024).find(|&block| bits[block] != theirs[block]);
+            format!("vk_block_bits, case {case}: first at block {first:?}")
+        });
+    }
+}
+
+fn compare_votes(random: &mut Random, scale: u64, tally: &mut Tally) {
+    let Some(ours) = ours::vk_gather.function else {
+        tally.missing.push(ours::vk_gather.name);
+        return;
+    };
+    for case in 0..scale * CASES {
+        let blocks: [f32; 1024] = votes(random, case);
+        let mut soft = [f32::NAN; 748];
+        unsafe { ours(&blocks, &mut soft) };
+        let theirs = stages::gather(&blocks);
+        let equal = soft.iter().zip(theirs).all(|(mine, theirs)| mine.same(theirs));
+        tally.count(equal, || format!("vk_gather, case {case}"));
+    }
+}
+
+pub fn compare(random: &mut Random, scale: u64) -> Tally {
+    let mut tally = Tally::default();
+    compare_bits(random, scale, &mut tally);
+    compare_votes(random, scale, &mut tally);
+    tally
+}
