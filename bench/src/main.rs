@@ -6,11 +6,12 @@ use std::time::Instant;
 
 use judge::random::Random;
 use judge::soft::damaged;
-use judge::{crc32, stages};
+use judge::{cipher, crc32, stages};
 
 unsafe extern "C" {
     fn vk_round_all_to_u8(from: *const f32, from_len: usize, to: *mut u8, to_len: usize);
     fn vk_crc32(bytes: *const u8, len: usize) -> u32;
+    fn vk_chacha20_apply(key: &[u8; 32], nonce: &[u8; 12], from: u64, bytes: *mut u8, len: usize) -> u8;
     fn vk_encode(record: &[u8; 46], coded: &mut [u8; 748]);
     fn vk_decode(soft: &[f32; 748], record: &mut [u8; 46]) -> f32;
 }
@@ -76,6 +77,30 @@ fn checksums(runs: usize, length: usize, count: usize) {
     assert_eq!(ours, rust);
 }
 
+/// The keystream put onto parts of one length, each with a key of its own; the Rust is the stand-in's.
+fn keystreams(runs: usize, length: usize, count: usize) {
+    let mut random = Random::new(5);
+    let keys: Vec<([u8; 32], [u8; 12])> =
+        (0..count).map(|_| (random.array(), random.array())).collect();
+    let mut ours = random.bytes(length * count);
+    let mut rust = ours.clone();
+    row(
+        &format!("chacha20, {count} x {length} bytes"),
+        runs,
+        || {
+            for ((key, nonce), part) in keys.iter().zip(ours.chunks_exact_mut(length)) {
+                unsafe { vk_chacha20_apply(key, nonce, 0, part.as_mut_ptr(), length) };
+            }
+        },
+        || {
+            for ((key, nonce), part) in keys.iter().zip(rust.chunks_exact_mut(length)) {
+                cipher::apply(key, nonce, 0, part).expect("the stream's start");
+            }
+        },
+    );
+    assert_eq!(ours, rust);
+}
+
 fn encoder(runs: usize) {
     let mut random = Random::new(3);
     let records: Vec<[u8; 46]> = (0..1_000).map(|_| random.array()).collect();
@@ -129,6 +154,8 @@ fn main() {
     round_to_u8(runs);
     checksums(runs, 1 << 24, 1);
     checksums(runs, 46, 10_000);
+    keystreams(runs, 1 << 24, 1);
+    keystreams(runs, 37, 10_000);
     encoder(runs);
     decoder(runs);
 }

@@ -1,6 +1,8 @@
-// Crates `crc32`, `layout` and `convolution`.
+// Crates `crc32`, `utf8`, `layout` and `convolution`.
 ghost use mathlib.Core.Path.{_≡_};
 ghost use Rattle.crc32.specs.Ieee8023.{crcOf};
+ghost use Rattle.utf8.specs.Rfc3629.{wellFormed};
+ghost use Rattle.utf8.specs.Counted.{counted};
 ghost use Rattle.layout.specs.Places.{blockBits, gathered};
 ghost use Rattle.convolution.specs.Ccsds131.{encodeOf};
 ghost use Rattle.convolution.specs.Decoder.{floats, decoded, strength};
@@ -11,6 +13,20 @@ pub extern "C" fn vk_crc32(bytes: &[u8]) -> u32
     ensures { λ r. ⌜ r ≡ crcOf (now (bytes .entry)) ⌝ }
 {
     crc32::crc32(bytes)
+}
+
+#[no_mangle]
+pub extern "C" fn vk_utf8_well_formed(bytes: &[u8]) -> bool
+    ensures { λ r. ⌜ r ≡ wellFormed (now (bytes .entry)) ⌝ }
+{
+    utf8::well_formed(bytes)
+}
+
+#[no_mangle]
+pub extern "C" fn vk_utf8_counted(bytes: &[u8]) -> bool
+    ensures { λ r. ⌜ r ≡ counted (now (bytes .entry)) ⌝ }
+{
+    utf8::counted(bytes)
 }
 
 #[no_mangle]

@@ -23,20 +23,9 @@ fn compare_blocks(tally: &mut Tally, random: &mut Random, scale: u64) {
         let (key, nonce): ([u8; 32], [u8; 12]) = (random.array(), random.array());
         let edge = edges.get(case as usize).copied();
         let counter = edge.unwrap_or_else(|| random.next_u32());
-        let mut lent = Lent::new(random, 64);
-        let out = lent.lend();
-        unsafe {
-            ours(
-                key.as_ptr(),
-                key.len(),
-                counter,
-                nonce.as_ptr(),
-                nonce.len(),
-                out.as_mut_ptr(),
-                out.len(),
-            );
-        }
-        tally.count(lent.is(&cipher::block(&key, counter, &nonce)), || {
+        let mut block = random.array();
+        unsafe { ours(&key, counter, &nonce, &mut block) };
+        tally.count(block == cipher::block(&key, counter, &nonce), || {
             let (key, nonce) = (hex::of_bytes(&key), hex::of_bytes(&nonce));
             format!("vk_chacha20_block key {key} counter {counter} nonce {nonce}")
         });
@@ -79,17 +68,7 @@ fn compare_parts(tally: &mut Tally, random: &mut Random, scale: u64) {
             Err(refused) => refused.number,
         };
         let bytes = lent.lend();
-        let mine = unsafe {
-            ours(
-                key.as_ptr(),
-                key.len(),
-                nonce.as_ptr(),
-                nonce.len(),
-                position,
-                bytes.as_mut_ptr(),
-                bytes.len(),
-            )
-        };
+        let mine = unsafe { ours(&key, &nonce, position, bytes.as_mut_ptr(), bytes.len()) };
         tally.count(mine == theirs && lent.is(&expected), || {
             let (key, nonce) = (hex::of_bytes(&key), hex::of_bytes(&nonce));
             let answers = format!("ours {mine}, Rust {theirs}");

@@ -11,6 +11,7 @@ mod lent;
 mod ours;
 mod sweep;
 mod tally;
+mod utf8;
 
 use std::process::ExitCode;
 
@@ -20,16 +21,17 @@ use tally::Tally;
 type Stage = fn(&mut Random, u64) -> Tally;
 
 /// The stages in the order of the crates.
-const STAGES: [(&str, Stage); 5] = [
+const STAGES: [(&str, Stage); 6] = [
     ("float", float::compare),
     ("crc32", crc32::compare),
     ("chacha20", chacha20::compare),
+    ("utf8", utf8::compare),
     ("layout", layout::compare),
     ("convolution", convolution::compare),
 ];
 
 /// The stages whose comparison comes with their crate.
-const LATER: [&str; 6] = ["utf8", "record", "block", "resample", "resilient", "votes"];
+const LATER: [&str; 5] = ["record", "block", "resample", "resilient", "votes"];
 
 fn compare(seed: u64, scale: u64) -> Tally {
     let mut total = Tally::default();

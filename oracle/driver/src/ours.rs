@@ -47,10 +47,12 @@ ours! {
 
     vk_crc32(*const u8, usize) -> u32;
 
-    // Key, counter, nonce, and the 64 bytes of the block.
-    vk_chacha20_block(*const u8, usize, u32, *const u8, usize, *mut u8, usize);
+    vk_chacha20_block(&[u8; 32], u32, &[u8; 12], &mut [u8; 64]);
     // Key, nonce, position in the stream, and the bytes; 0, or 14 where the stream ends before the last.
-    vk_chacha20_apply(*const u8, usize, *const u8, usize, u64, *mut u8, usize) -> u8;
+    vk_chacha20_apply(&[u8; 32], &[u8; 12], u64, *mut u8, usize) -> u8;
+
+    vk_utf8_well_formed(*const u8, usize) -> bool;
+    vk_utf8_counted(*const u8, usize) -> bool;
 
     vk_block_bits(&[u8; 748], &mut [u8; 1024]);
     vk_gather(&[f32; 1024], &mut [f32; 748]);

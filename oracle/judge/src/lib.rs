@@ -8,6 +8,7 @@ pub mod random;
 pub mod refusal;
 pub mod resilient;
 pub mod soft;
+pub mod texts;
 
 pub use crc32fast::hash as crc32;
 pub use instrumented::stages;

@@ -25,7 +25,7 @@ pub struct Lock {
 }
 
 /// Document 01's check of a text to be written: leading bytes with as many others as they announce.
-fn counted(mut text: &[u8]) -> bool {
+pub fn counted(mut text: &[u8]) -> bool {
     while let [first, rest @ ..] = text {
         let following = match first {
             0x00..=0x7f => 0,

@@ -1,19 +1,16 @@
-//! Writes the lists that the gate's replay programs hold ours to: `vectors FOLDER PUBLISHED RUSTC`.
+//! Writes the lists that the gate's replay programs hold ours to: `vectors FOLDER RUSTC`.
 //!
-//! FOLDER gets a folder for each replay program, PUBLISHED holds the vectors of public documents, and
-//! RUSTC is the release that is named in each list.
+//! FOLDER gets a folder for each replay program, and RUSTC is the release that is named in each list.
 
 use std::fs;
 use std::path::Path;
 
 use judge::random::Random;
 use judge::soft::{damaged, sure, votes};
-use judge::{cipher, crc32, edges, hex, stages};
+use judge::{crc32, edges, hex, stages, texts};
 
 /// A replay program reads a list whole into a buffer of this size.
 const LARGEST: usize = 256 * 1_024;
-/// The end of a keystream: 2^32 blocks of 64 bytes.
-const END: u64 = 1 << 38;
 
 /// A list of cases, a line each.
 struct List {
@@ -210,82 +207,40 @@ fn convolution_lists() -> Vec<List> {
     ]
 }
 
-/// The cases of a published list, without what is said about each.
-fn published(folder: &Path, name: &str) -> std::io::Result<Vec<String>> {
-    let text = fs::read_to_string(folder.join(name))?;
-    let cases = text.lines().filter(|line| !line.starts_with('#'));
-    Ok(cases.map(str::to_owned).collect())
-}
-
-/// Requests around the end of a keystream, and the bytes afterwards.
-fn stream_end() -> Vec<String> {
-    let parts = [
-        (END - 64, 64),
-        (END - 64, 65),
-        (END - 65, 65),
-        (END - 65, 66),
-        (END - 1, 1),
-        (END - 1, 2),
-        (END, 0),
-        (END, 1),
-        (END + 1, 0),
-        (END + 1, 1),
-        (u64::MAX, 0),
-        (u64::MAX, 1),
-    ];
-    let mut random = Random::new(1);
-    parts
-        .into_iter()
-        .map(|(position, length)| {
-            let (key, nonce) = (random.array(), random.array());
-            let before = random.bytes(length);
-            let mut after = before.clone();
-            let number = match cipher::apply(&key, &nonce, position, &mut after) {
-                Ok(()) => 0,
-                Err(refused) => refused.number,
-            };
-            let (key, nonce) = (hex::of_bytes(&key), hex::of_bytes(&nonce));
-            let (before, after) = (hex::of_bytes(&before), hex::of_bytes(&after));
-            format!("{key} {nonce} {position:016x} {before} {number:02x} {after}")
-        })
-        .collect()
-}
-
-fn chacha20_lists(folder: &Path) -> std::io::Result<Vec<List>> {
-    let list = |name, about, lines| List { program: "replay_chacha20", name, about, lines };
-    Ok(vec![
+fn utf8_lists() -> Vec<List> {
+    let list = |name, about, lines| List { program: "replay_utf8", name, about, lines };
+    vec![
         list(
-            "quarter_round",
-            "RFC 8439, 2.1.1, and 2.2.1 on words 2, 7, 8, 13 of its state:\n\
-             four words, then the four that they become.",
-            published(folder, "quarter_round.txt")?,
+            "short",
+            "all strings of one byte and of two. Line 1 has those of one byte, line 2 + b those of two\n\
+             that start with b, two bits each for the last byte: the first word is 00-1f, lowest bits\n\
+             first. Of the two bits, 1 is what std::str::from_utf8 says, and 2 the check on writing.",
+            texts::short(),
         ),
         list(
-            "rfc8439",
-            "RFC 8439, 2.3.2, 2.4.2, A.1 #1 to #5, A.2 #1 to #3:\n\
-             key, nonce, first byte of the keystream, plaintext, ciphertext.",
-            published(folder, "chacha20.txt")?,
+            "edges",
+            "the edges of RFC 3629, cut short and among ASCII, and the two answers: 1 where\n\
+             std::str::from_utf8 takes the bytes, and 2 more where the check on writing does.",
+            texts::edges(),
         ),
         list(
-            "stream_end",
-            "requests around the end of the keystream, 2^38 bytes:\n\
-             key, nonce, first byte of the keystream, bytes, 00 or the refusal 0e, bytes afterwards.\n\
-             The answers are those of the stand-in; the real crate's end could not be compared.",
-            stream_end(),
+            "neighbours",
+            "three and four bytes, each beside an edge of RFC 3629, and the answers as in edges.",
+            texts::neighbours(),
         ),
-    ])
+    ]
 }
 
 fn main() -> std::io::Result<()> {
     let words: Vec<String> = std::env::args().skip(1).collect();
-    let [folder, published, rustc] = &words[..] else {
-        eprintln!("vectors: FOLDER PUBLISHED RUSTC");
+    let [folder, rustc] = &words[..] else {
+        eprintln!("vectors: FOLDER RUSTC");
         std::process::exit(2);
     };
     let mut lists = single_lists();
     lists.extend(double_lists());
     lists.extend(crc32_lists());
-    lists.extend(chacha20_lists(Path::new(published))?);
+    lists.extend(utf8_lists());
     lists.extend(convolution_lists());
     for list in lists {
         list.write(Path::new(folder), rustc)?;

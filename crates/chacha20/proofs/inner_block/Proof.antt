@@ -1,0 +1,55 @@
+-- The eight calls, the last first, are the definition's chain. Assumes nothing.
+use borrow.Author.Needs.{needs}
+use Rattle.chacha20.specs.Rfc8439.{innerBlock}
+use Rattle.chacha20.proofs.inner_block.Statement.{statement}
+use Rattle.chacha20.proofs.inner_block.Tie as tie
+
+quarter-round-requires : tie.Need-quarter-round-requires
+quarter-round-requires c κs = search needs
+
+quarter-round-requires-2 : tie.Need-quarter-round-requires-2
+quarter-round-requires-2 c κs = search needs
+
+quarter-round-requires-3 : tie.Need-quarter-round-requires-3
+quarter-round-requires-3 c κs = search needs
+
+quarter-round-requires-4 : tie.Need-quarter-round-requires-4
+quarter-round-requires-4 c κs = search needs
+
+quarter-round-requires-5 : tie.Need-quarter-round-requires-5
+quarter-round-requires-5 c κs = search needs
+
+quarter-round-requires-6 : tie.Need-quarter-round-requires-6
+quarter-round-requires-6 c κs = search needs
+
+quarter-round-requires-7 : tie.Need-quarter-round-requires-7
+quarter-round-requires-7 c κs = search needs
+
+quarter-round-requires-8 : tie.Need-quarter-round-requires-8
+quarter-round-requires-8 c κs = search needs
+
+returns : tie.Need-returns
+unfolding innerBlock
+returns c =
+    let c7 = c .before .before in
+    let c6 = c7 .before .before in
+    let c5 = c6 .before .before in
+    let c4 = c5 .before .before in
+    let c3 = c4 .before .before in
+    let c2 = c3 .before .before in
+    let c1 = c2 .before .before in
+    rw (c .quarter-round8 .ensures, c7 .quarter-round7 .ensures, c6 .quarter-round6 .ensures, c5 .quarter-round5 .ensures, c4 .quarter-round4 .ensures, c3 .quarter-round3 .ensures, c2 .quarter-round2 .ensures, c1 .quarter-round .ensures)
+
+pub inner-block-spec : {M : Type 1} → statement M
+inner-block-spec =
+    tie.close
+    (tie.spec
+    quarter-round-requires
+    quarter-round-requires-2
+    quarter-round-requires-3
+    quarter-round-requires-4
+    quarter-round-requires-5
+    quarter-round-requires-6
+    quarter-round-requires-7
+    quarter-round-requires-8
+    returns)

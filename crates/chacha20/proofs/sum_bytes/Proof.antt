@@ -1,0 +1,137 @@
+-- After i turns the first 4 * i bytes are those of the first i sums; a turn stores the four bytes of one more
+-- (`stored`, `serialized-more`). The measure is what is left of sixteen. Assumes nothing.
+use borrow.Author.Needs.{needs}
+use mathlib.Core.Path.{_≡_, refl, sym, _∙_}
+use mathlib.Core.List.{List, [], _∷_, _++_}
+use Prim.Native.Nat.{ℕ, _+_, _-_, _*_, _≤_}
+use native.Mathlib.Numerals.{towards-suc}
+use native.Mathlib.Omega.{arith}
+use denote.Ref.{now}
+use lib.ListN.{length, take, set, getD, length-set, length-append}
+use lib.Seq.{sets-eq, take-at, take-all, length-take-le}
+use Rattle.seq.specs.Tab.{tab}
+use Rattle.chacha20.specs.Rfc8439.{plus, sums, littleEndian, serialized}
+use Rattle.chacha20.specs.Blocks.{serialized-more}
+use Rattle.chacha20.proofs.sum_bytes.Statement.{statement}
+use Rattle.chacha20.proofs.sum_bytes.Tie as tie
+
+-- word k of the sum
+abbrev sumAt : List ℕ → List ℕ → ℕ → ℕ
+sumAt s t k = plus (getD s k 0) (getD t k 0)
+
+-- four stores in a row
+stored : (a b c d n : ℕ) (xs : List ℕ) → n + 4 ≤ length xs → take (n + 4) (set (set (set (set xs n a) (n + 1) b) (n + 2) c) (n + 3) d) ≡ take n xs ++ (a ∷ b ∷ c ∷ d ∷ [])
+stored a b c d n xs h =
+    let front : length (take n xs ++ (a ∷ b ∷ c ∷ d ∷ [])) ≡ n + 4 = simp length-append (omega (arith, length-take-le n xs (omega arith))) in
+    simp towards-suc (rw (sets-eq (a ∷ b ∷ c ∷ d ∷ []) xs n h) (take-at (take n xs ++ (a ∷ b ∷ c ∷ d ∷ [])) _ _ (simp towards-suc at front)))
+
+abbrev Inv-loop : tie.InvT-loop
+Inv-loop s t out₀ i₀ out i = (i ≤ 16) × (length out ≡ 64) × (take (4 * i) out ≡ serialized (tab (sumAt s t) i))
+
+abbrev μ-loop : tie.MeasureT-loop
+μ-loop s t out₀ i₀ out i = 16 - i
+
+loop-holds : tie.Need-loop-holds Inv-loop μ-loop
+unfolding tab serialized
+loop-holds c = (search needs, refl, refl)
+
+mul-wrapping-add-u32 : tie.Need-mul-wrapping-add-u32 Inv-loop μ-loop
+mul-wrapping-add-u32 c = search needs
+
+element-copy-out-wrapping-add-u32 : tie.Need-element-copy-out-wrapping-add-u32 Inv-loop μ-loop
+element-copy-out-wrapping-add-u32 c = search needs
+
+mul-wrapping-add-u32-2 : tie.Need-mul-wrapping-add-u32-2 Inv-loop μ-loop
+mul-wrapping-add-u32-2 c = search needs
+
+element-copy-out-wrapping-add-u32-2 : tie.Need-element-copy-out-wrapping-add-u32-2 Inv-loop μ-loop
+element-copy-out-wrapping-add-u32-2 c = search needs
+
+wrapping-add-u32-requires : tie.Need-wrapping-add-u32-requires Inv-loop μ-loop
+wrapping-add-u32-requires c κs = search needs
+
+mul-at : tie.Need-mul-at Inv-loop μ-loop
+mul-at c = search needs
+
+cast-out : tie.Need-cast-out Inv-loop μ-loop
+cast-out c = search needs
+
+array-write-out : tie.Need-array-write-out Inv-loop μ-loop
+array-write-out c = search needs
+
+cast-out-2 : tie.Need-cast-out-2 Inv-loop μ-loop
+cast-out-2 c = search needs
+
+add-out : tie.Need-add-out Inv-loop μ-loop
+add-out c = search needs
+
+array-write-out-2 : tie.Need-array-write-out-2 Inv-loop μ-loop
+array-write-out-2 c = search needs
+
+cast-out-3 : tie.Need-cast-out-3 Inv-loop μ-loop
+cast-out-3 c = search needs
+
+add-out-2 : tie.Need-add-out-2 Inv-loop μ-loop
+add-out-2 c = search needs
+
+array-write-out-3 : tie.Need-array-write-out-3 Inv-loop μ-loop
+array-write-out-3 c = search needs
+
+cast-out-4 : tie.Need-cast-out-4 Inv-loop μ-loop
+cast-out-4 c = search needs
+
+add-out-3 : tie.Need-add-out-3 Inv-loop μ-loop
+add-out-3 c = search needs
+
+array-write-out-4 : tie.Need-array-write-out-4 Inv-loop μ-loop
+array-write-out-4 c = search needs
+
+add-i : tie.Need-add-i Inv-loop μ-loop
+add-i c = search needs
+
+loop-less : tie.Need-loop-less Inv-loop μ-loop
+loop-less c = search needs
+
+loop-again : tie.Need-loop-again Inv-loop μ-loop
+unfolding littleEndian
+loop-again c =
+    let top = c .before .before .before .before in
+    let i = top .loop .i in
+    let word : c .wrapping-add-u32 .result ≡ sumAt (now (top .before .args .s)) (now (top .before .args .t)) i = c .wrapping-add-u32 .ensures in
+    let four : 4 * (i + 1) ≡ 4 * i + 4 = omega arith in
+    (search needs, simp length-set (search needs), rw (four, stored _ _ _ _ (4 * i) (top .loop .out) (omega arith), top .loop .inv .2, word) (sym (serialized-more _ i)))
+
+returns : tie.Need-returns Inv-loop μ-loop
+unfolding sums
+returns c =
+    let all : c .before .loop .i ≡ 16 = omega arith in
+    sym (take-all 64 (c .before .loop .out) (omega arith)) ∙ rw all at (c .before .loop .inv .2)
+
+pub sum-bytes-spec : {M : Type 1} → statement M
+sum-bytes-spec =
+    tie.close
+    (tie.spec
+    Inv-loop
+    μ-loop
+    loop-holds
+    mul-wrapping-add-u32
+    element-copy-out-wrapping-add-u32
+    mul-wrapping-add-u32-2
+    element-copy-out-wrapping-add-u32-2
+    wrapping-add-u32-requires
+    mul-at
+    cast-out
+    array-write-out
+    cast-out-2
+    add-out
+    array-write-out-2
+    cast-out-3
+    add-out-2
+    array-write-out-3
+    cast-out-4
+    add-out-3
+    array-write-out-4
+    add-i
+    loop-less
+    loop-again
+    returns)

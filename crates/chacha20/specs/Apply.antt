@@ -1,0 +1,26 @@
+-- A request for keystream, and its end. RFC 8439 counts blocks in 32 bits and document 01 starts at block 0, so the
+-- keystream has 2^32 blocks of 64 bytes, 2^38 bytes. Assumes nothing.
+use mathlib.Core.Bool.{Bool, cond}
+use mathlib.Core.List.{List}
+use Prim.Native.Nat.{ℕ, _+_, _-_, _^_}
+use lib.Dec.{leb}
+use lib.ListN.{length}
+use Rattle.chacha20.specs.declared.Applied.{Applied}
+use Rattle.chacha20.specs.declared.Applied.the-variants.{Next, KeystreamEnd}
+use Rattle.chacha20.specs.Rfc8439.{encrypted}
+
+-- the bytes that the keystream has from byte p on: none where p is its end or beyond
+abbrev pub leftAt : ℕ → ℕ
+leftAt p = 2 ^ 38 - p
+
+-- a request for n bytes from p on is granted if as many are left; so a request for no bytes always is
+abbrev pub granted : ℕ → ℕ → Bool
+granted p n = leb n (leftAt p)
+
+-- what a request for n bytes from p on is answered
+unfoldable pub appliedOf : ℕ → ℕ → Applied
+appliedOf p n = cond (granted p n) (Next (p + n)) KeystreamEnd
+
+-- and what the bytes lent for it are afterwards
+unfoldable pub bytesAfter : List ℕ → List ℕ → ℕ → List ℕ → List ℕ
+bytesAfter key nonce p bs = cond (granted p (length bs)) (encrypted key nonce p bs) bs

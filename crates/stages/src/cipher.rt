@@ -1,0 +1,42 @@
+// Crate `chacha20`.
+use chacha20::Applied;
+ghost use mathlib.Core.Path.{_≡_};
+ghost use lib.ListN.{length};
+ghost use Rattle.chacha20.specs.Rfc8439.{blockOf};
+ghost use Rattle.chacha20.specs.Apply.{appliedOf, bytesAfter};
+ghost use Rattle.stages.specs.Cipher.{codeOf};
+
+#[no_mangle]
+pub extern "C" fn vk_chacha20_block(
+    key: &[u8; 32],
+    counter: u32,
+    nonce: &[u8; 12],
+    bytes: &mut [u8; 64],
+)
+    ensures { λ _. ⌜ now (bytes .exit) ≡ blockOf (now (key .entry)) counter (now (nonce .entry)) ⌝ }
+{
+    *bytes = chacha20::block(key, counter, nonce);
+}
+
+// 0 where the keystream was put onto the bytes, 14 where it ends too early.
+#[no_mangle]
+pub extern "C" fn vk_chacha20_apply(
+    key: &[u8; 32],
+    nonce: &[u8; 12],
+    from: u64,
+    bytes: &mut [u8],
+) -> u8
+    ensures answer { λ r. ⌜ r ≡ codeOf (appliedOf from (length (now (bytes .entry)))) ⌝ }
+    ensures lent { λ _. ⌜ now (bytes .exit) ≡ bytesAfter (now (key .entry)) (now (nonce .entry)) from (now (bytes .entry)) ⌝ }
+{
+    code(chacha20::apply(key, nonce, from, bytes))
+}
+
+fn code(answer: Applied) -> u8
+    ensures { λ r. ⌜ r ≡ codeOf answer ⌝ }
+{
+    match answer {
+        Applied::Next(_) => 0,
+        Applied::KeystreamEnd => 14,
+    }
+}

@@ -1,0 +1,10 @@
+pub mod Abnf
+pub mod Forms
+pub mod Rfc3629
+pub mod Counted
+pub mod Strings
+pub mod Deciding
+pub mod Scalars
+pub mod Texts
+pub mod Examples
+pub mod Reading
