@@ -84,6 +84,17 @@ pub mod stages {
         super::dct_matrix()
     }
 
+    /// Each block of a plane transformed, and transformed back, the matrix made once.
+    pub fn there_and_back(plane: &mut [f32]) {
+        let matrix = super::dct_matrix();
+        for block in 0..BLOCKS {
+            let mut values = super::load_block(plane, block);
+            super::forward(&mut values, &matrix);
+            super::inverse(&mut values, &matrix);
+            super::store_block(plane, block, &values);
+        }
+    }
+
     /// The transform of a block.
     pub fn forward(block: &mut [f32; 64]) {
         super::forward(block, &super::dct_matrix());

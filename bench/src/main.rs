@@ -1,5 +1,5 @@
 //! Times each stage of the port beside the Rust that it replaces. The two sides take turns on the same input,
-//! and a row is printed only where they gave the same output.
+//! and the run stops where their outputs differ.
 
 use std::hint::black_box;
 use std::time::Instant;
@@ -11,7 +11,14 @@ use judge::{cipher, crc32, stages};
 unsafe extern "C" {
     fn vk_round_all_to_u8(from: *const f32, from_len: usize, to: *mut u8, to_len: usize);
     fn vk_crc32(bytes: *const u8, len: usize) -> u32;
-    fn vk_chacha20_apply(key: &[u8; 32], nonce: &[u8; 12], from: u64, bytes: *mut u8, len: usize) -> u8;
+    fn vk_chacha20_apply(
+        key: &[u8; 32],
+        nonce: &[u8; 12],
+        from: u64,
+        bytes: *mut u8,
+        len: usize,
+    ) -> u8;
+    fn vk_there_and_back(plane: &mut [f32; 65536]);
     fn vk_encode(record: &[u8; 46], coded: &mut [u8; 748]);
     fn vk_decode(soft: &[f32; 748], record: &mut [u8; 46]) -> f32;
 }
@@ -148,6 +155,21 @@ fn decoder(runs: usize) {
     assert_eq!(ours, rust);
 }
 
+/// A plane of samples, whose rounding errors both sides make alike.
+fn transforms(runs: usize) {
+    let mut random = Random::new(6);
+    let samples: Vec<f32> = (0..65_536).map(|_| random.below(256) as f32).collect();
+    let mut ours: Box<[f32; 65_536]> = samples.into_boxed_slice().try_into().expect("a plane");
+    let mut rust = ours.clone();
+    row(
+        "forward and inverse, 1,024 blocks",
+        runs,
+        || unsafe { vk_there_and_back(&mut ours) },
+        || stages::there_and_back(&mut rust[..]),
+    );
+    assert_eq!(ours, rust);
+}
+
 fn main() {
     let runs = std::env::args().nth(1).map_or(15, |runs| runs.parse().expect("a number of runs"));
     println!("{:<40} {:>10} {:>10} {:>8}", "stage", "ours ms", "Rust ms", "ratio");
@@ -158,4 +180,5 @@ fn main() {
     keystreams(runs, 37, 10_000);
     encoder(runs);
     decoder(runs);
+    transforms(runs);
 }

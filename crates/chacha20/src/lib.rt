@@ -78,7 +78,8 @@ fn ten_times(s: &mut [u32; 16])
     }
 }
 
-fn little_endian(a: u8, b: u8, c: u8, d: u8) -> u32
+// 2.3: four bytes as a word, the lowest first.
+pub fn little_endian(a: u8, b: u8, c: u8, d: u8) -> u32
     ensures { λ r. ⌜ r ≡ a + b * 2 ^ 8 + c * 2 ^ 16 + d * 2 ^ 24 ⌝ }
 {
     (a as u32) + (b as u32) * 0x100 + (c as u32) * 0x1_0000 + (d as u32) * 0x100_0000

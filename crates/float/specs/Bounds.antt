@@ -3,8 +3,8 @@
 use mathlib.Core.Path.{_≡_, refl, sym, ap, _∙_, subst}
 use mathlib.Core.Logic.{_⊎_, inl, inr}
 use mathlib.Core.Bool.{Bool, true, false, _&&_, Bool·beq, cond}
-use Prim.Native.Nat.{ℕ, zero, suc, _+_, _-_, _*_, _^_, _≤_, _<_}
-use native.Mathlib.Nat.{le-refl, le-trans, le-of-eq, lt-irrefl, zero-mul, mul-comm, mul-assoc, mul-right-comm, mul-left-comm, mul-mul-mul-comm, add-mul, mul-pos, mul-le-mul, mul-le-mul-right, le-of-mul-le-mul-right, add-assoc, add-comm, add-zero, suc-mul, eq-zero-or-pos}
+use Prim.Native.Nat.{ℕ, zero, suc, _+_, _-_, _*_, _/_, _^_, _≤_, _<_}
+use native.Mathlib.Nat.{le-refl, le-trans, le-of-eq, lt-irrefl, zero-mul, mul-comm, mul-assoc, mul-right-comm, mul-left-comm, mul-mul-mul-comm, add-mul, mul-pos, mul-le-mul, mul-le-mul-right, le-of-mul-le-mul-right, add-assoc, add-comm, add-zero, suc-mul, one-mul, div-lt-iff-lt-mul, eq-zero-or-pos}
 use native.Mathlib.Omega.{arith}
 use lib.IntN.{ℤ}
 use lib.Dec.{T, ltb, eqb, eqb→eq}
@@ -13,11 +13,12 @@ use lib.Ieee.{Float, nan, inf, fin, Format, prec, low, unlike, up, down, odd, un
 use lib.Ieee.Fits.{down-pos, up-pos, round-is}
 use lib.Ieee.Exact.{HasValue, odd-sign}
 use lib.Ieee.Order.{round-mono, drop, kept}
-use lib.Ieee.Scale.{grid, overflow}
+use lib.Ieee.Scale.{grid, overflow, finite}
 use Rattle.seq.specs.Sum.{sumTo}
 use Rattle.float.specs.Fraction.{value-scale, at-most}
 use Rattle.float.specs.Rounding.{neg-round}
 use Rattle.float.specs.Exact.{exact-at}
+use Rattle.float.specs.Calls.{roundAway, halfAway}
 
 abbrev pub Within : Float → ℕ → ℕ → Type 0
 Within nan a c = ⊥
@@ -74,6 +75,11 @@ unfolding neg
 within-neg nan a c h = h
 within-neg (inf s) a c h = h
 within-neg (fin s m e) a c h = h
+
+pub within-finite : (x : Float) (a c : ℕ) → Within x a c → T (finite x)
+within-finite nan a c h = h
+within-finite (inf s) a c h = h
+within-finite (fin s m e) a c h = tt
 
 -- ---- monotone rounding
 
@@ -171,6 +177,23 @@ div-within f (fin s m e) (fin u n g) t a c b d C B D H h k = go (eqb n 0) (eqb�
     go false z =
         round-within f (unlike s u) (m * up e * down g) (n * up g * down e) (a * d) (c * b) (mul-pos (mul-pos n-pos (up-pos g)) (down-pos e)) (mul-pos C B) H
         (div-bound (m * up e) (n * up g) (down e) (down g) a c b d h (k .1))
+
+-- ---- rounding to a whole number
+
+half-away-at-most : (a c n : ℕ) → 0 < c → a * 1 ≤ n * c → halfAway a c ≤ n
+half-away-at-most a c n C h =
+    let e : (n + 1) * (c * 2) ≡ n * c * 2 + c * 2 = add-mul n 1 (c * 2) ∙ (ap (λ (z : ℕ). n * (c * 2) + z) (one-mul (c * 2)) ∙ ap (λ (z : ℕ). z + c * 2) (sym (mul-assoc n c 2))) in
+    let twice : 0 < c * 2 = omega arith in
+    let below : a * 2 + c < (n + 1) * (c * 2) = omega arith in
+    let l : (a * 2 + c) / (c * 2) < n + 1 = div-lt-iff-lt-mul twice .1 below in
+    omega arith
+
+pub roundAway-within : (f : Format) (x : Float) (n : ℕ) → Holds f n 1 → Within x n 1 → Within (roundAway f x) n 1
+unfolding roundAway
+roundAway-within f nan n H h = h
+roundAway-within f (inf s) n H h = h
+roundAway-within f (fin s m e) n H h =
+    round-within f s (halfAway (m * up e) (down e)) 1 n 1 (native.Mathlib.Nat.zero-lt-suc 0) (native.Mathlib.Nat.zero-lt-suc 0) H (mul-le-mul-right 1 (half-away-at-most (m * up e) (down e) n (down-pos e) h))
 
 -- ---- sums of many, in index order
 

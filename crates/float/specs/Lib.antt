@@ -11,6 +11,7 @@ pub mod Whole
 pub mod Beside
 pub mod Widen
 pub mod Bounds
+pub mod Commute
 pub mod Integer
 pub mod Byte
 pub mod Unit

@@ -2,3 +2,4 @@ pub mod Layout
 pub mod Permutation
 pub mod Places
 pub mod Loops
+pub mod Dither

@@ -6,6 +6,8 @@ ghost use Rattle.layout.specs.Layout.{layout, blockOf};
 ghost use Rattle.layout.specs.Places.{blockBits, gathered};
 use table::LAYOUT;
 
+pub mod dither;
+mod key;
 mod table;
 
 // The bit that each block carries.

@@ -1,6 +1,6 @@
 // What is said when nothing can be done: the refusals of the archive's scope paper, in the order of
 // their numbers, each with the value that its number given is made of. This is the one place that knows
-// them; every crate above answers with a `Refusal`, and hosts see its number and the number given.
+// them, for the crates that read and write marks; hosts see a refusal's number and the number given.
 ghost use mathlib.Core.Path.{_≡_};
 ghost use Rattle.refusal.specs.Numbers.{numberOf, givenOf};
 

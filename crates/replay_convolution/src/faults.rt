@@ -46,6 +46,17 @@ fn agreed(one: f32, other: f32) -> f32 {
     if one == other { one } else { 0.0 }
 }
 
+fn zeroed(votes: &[f32; 1024]) -> u64 {
+    let mut count: u64 = 0;
+    for b in 0..1024usize {
+        if votes[b] == 0.0 {
+            count = std::num::wrapping_add_u64(count, 1);
+        }
+    }
+    count
+}
+
+// Two records that differ in just ten blocks: with these zeroed the votes of both are the same.
 fn limit() -> u64 {
     let zero = [0u8; 46];
     let mut last = [0u8; 46];
@@ -55,7 +66,11 @@ fn limit() -> u64 {
     for b in 0..1024usize {
         votes[b] = agreed(votes[b], other[b]);
     }
-    if reads(&votes, &zero) { 0 } else { 1 }
+    if zeroed(&votes) == 10 && reads(&votes, &zero) {
+        0
+    } else {
+        1
+    }
 }
 
 pub fn run() {

@@ -3,3 +3,4 @@ pub mod Part
 pub mod Sum
 pub mod Table
 pub mod Rows
+pub mod Lines

@@ -33,3 +33,13 @@ pub fn copy_bytes(from: &[u8], to: &mut [u8], at: usize)
         to[at + i] = from[i];
     }
 }
+
+// The same for floats.
+pub fn copy_floats(from: &[f32], to: &mut [f32], at: usize)
+    requires { ⌜ at + length (now from) ≤ length (now to) ⌝ }
+    ensures { λ _. ⌜ now (to .exit) ≡ paste (now (to .entry)) at (now (from .entry)) (length (now (from .entry))) ⌝ }
+{
+    for k in 0..from.len() {
+        to[at + k] = from[k];
+    }
+}

@@ -1,2 +1,3 @@
 pub mod Bulk
 pub mod Cipher
+pub mod Blocks

@@ -1,8 +1,11 @@
 // Crates `crc32`, `utf8`, `layout` and `convolution`.
 ghost use mathlib.Core.Path.{_≡_};
+ghost use Prim.Native.Nat.{_+_, _*_};
+ghost use Rattle.seq.specs.Tab.{tab};
 ghost use Rattle.crc32.specs.Ieee8023.{crcOf};
 ghost use Rattle.utf8.specs.Rfc3629.{wellFormed};
 ghost use Rattle.utf8.specs.Counted.{counted};
+ghost use Rattle.layout.specs.Dither.{ditherOf};
 ghost use Rattle.layout.specs.Places.{blockBits, gathered};
 ghost use Rattle.convolution.specs.Ccsds131.{encodeOf};
 ghost use Rattle.convolution.specs.Decoder.{floats, decoded, strength};
@@ -41,6 +44,13 @@ pub extern "C" fn vk_gather(votes: &[f32; 1024], soft: &mut [f32; 748])
     ensures { λ _. ⌜ now (soft .exit) ≡ gathered 748 (now (votes .entry)) ⌝ }
 {
     *soft = layout::gather(votes);
+}
+
+#[no_mangle]
+pub extern "C" fn vk_dither(group: u32, numbers: &mut [f32; 16])
+    ensures { λ _. ⌜ now (numbers .exit) ≡ tab (λ k. ditherOf (16 * group + k)) 16 ⌝ }
+{
+    *numbers = layout::dither::dither(group);
 }
 
 #[no_mangle]

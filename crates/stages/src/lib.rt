@@ -1,5 +1,6 @@
 // Each stage of the port under a C name, for the comparison with the Rust and for the benchmarks: thin calls,
-// each with the promise of what it calls. No host links this; hosts link `vaikelomu`.
+// each with the promise of what it calls.
+mod block8;
 mod cipher;
 mod code;
 mod float32;

@@ -56,38 +56,24 @@ fn round_all(tally: &mut Tally, random: &mut Random, values: &[f32]) {
     }
 }
 
-/// The two functions of two numbers, and what the Rust leaves open about them.
-struct Pairs {
-    /// Pairs of numbers; of two zeros with different signs either one may be the answer.
-    numbers: Tally,
-    /// Pairs with an operand that is not a number, where the Rust gives the other one.
-    not_numbers: Tally,
-}
-
-impl Pairs {
-    fn count<A: Value + Into<f64>>(
-        &mut self,
-        ours: Binary<A>,
-        rust: fn(A, A) -> A,
-        inputs: &[(A, A)],
-    ) {
-        let Some(function) = ours.function else {
-            self.numbers.missing.push(ours.name);
-            return;
-        };
-        for &(a, b) in inputs {
-            let (mine, theirs) = (unsafe { function(a, b) }, rust(a, b));
-            let zeros = [a, b, mine].iter().all(|&value| value.into() == 0.0);
-            let tally = if a.into().is_nan() || b.into().is_nan() {
-                &mut self.not_numbers
-            } else {
-                &mut self.numbers
-            };
-            tally.count(zeros || mine.same(theirs), || {
-                let answers = format!("ours {}, Rust {}", mine.show(), theirs.show());
-                format!("{} {} {}: {answers}", ours.name, a.show(), b.show())
-            });
-        }
+/// A function of two numbers. Of two zeros with different signs the Rust may give either.
+fn binary<A: Value + Into<f64>>(
+    tally: &mut Tally,
+    ours: Binary<A>,
+    rust: fn(A, A) -> A,
+    inputs: &[(A, A)],
+) {
+    let Some(function) = ours.function else {
+        tally.missing.push(ours.name);
+        return;
+    };
+    for &(a, b) in inputs {
+        let (mine, theirs) = (unsafe { function(a, b) }, rust(a, b));
+        let zeros = [a, b, mine].iter().all(|&value| value.into() == 0.0);
+        tally.count(zeros || mine.same(theirs), || {
+            let answers = format!("ours {}, Rust {}", mine.show(), theirs.show());
+            format!("{} {} {}: {answers}", ours.name, a.show(), b.show())
+        });
     }
 }
 
@@ -187,11 +173,9 @@ pub fn compare(random: &mut Random, scale: u64) -> Tally {
     unary(&mut tally, ours::vk_abs_f64, f64::abs, &doubles);
     unary(&mut tally, ours::vk_narrow_f64, |value| value as f32, &doubles);
 
-    let mut both = Pairs { numbers: tally, not_numbers: Tally::default() };
     let single_pairs = pairs(&singles, &SPECIAL_SINGLES.map(f32::from_bits));
-    both.count(ours::vk_min_f32, f32::min, &single_pairs);
+    binary(&mut tally, ours::vk_min_f32, f32::min, &single_pairs);
     let double_pairs = pairs(&doubles, &SPECIAL_DOUBLES.map(f64::from_bits));
-    both.count(ours::vk_max_f64, f64::max, &double_pairs);
-    both.numbers.note("min and max with an operand that is not a number", &both.not_numbers);
-    both.numbers
+    binary(&mut tally, ours::vk_max_f64, f64::max, &double_pairs);
+    tally
 }

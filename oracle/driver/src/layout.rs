@@ -1,4 +1,4 @@
-//! The stage layout: coded bits to blocks, and the blocks' votes to those of coded bits.
+//! The stage layout: coded bits to blocks, the blocks' votes to those of coded bits, and the dither.
 
 use judge::random::Random;
 use judge::soft::votes;
@@ -43,9 +43,25 @@ fn compare_votes(random: &mut Random, scale: u64, tally: &mut Tally) {
     }
 }
 
+/// All numbers of the dither that a picture has.
+fn compare_dither(tally: &mut Tally) {
+    let Some(ours) = ours::vk_dither.function else {
+        tally.missing.push(ours::vk_dither.name);
+        return;
+    };
+    for (group, theirs) in stages::dither().chunks_exact(16).enumerate() {
+        let mut numbers = [f32::NAN; 16];
+        unsafe { ours(group as u32, &mut numbers) };
+        for (mine, theirs) in numbers.iter().zip(theirs) {
+            tally.count(mine.same(*theirs), || format!("vk_dither, group {group}"));
+        }
+    }
+}
+
 pub fn compare(random: &mut Random, scale: u64) -> Tally {
     let mut tally = Tally::default();
     compare_bits(random, scale, &mut tally);
     compare_votes(random, scale, &mut tally);
+    compare_dither(&mut tally);
     tally
 }

@@ -56,6 +56,17 @@ ours! {
 
     vk_block_bits(&[u8; 748], &mut [u8; 1024]);
     vk_gather(&[f32; 1024], &mut [f32; 748]);
+    // The numbers of four picture blocks.
+    vk_dither(u32, &mut [f32; 16]);
+
+    vk_forward(&mut [f32; 64]);
+    vk_inverse(&mut [f32; 64]);
+    vk_mark_block(&mut [f32; 64], &[f32; 4], u8);
+    vk_block_vote(&[f32; 64], &[f32; 4]) -> f32;
+    vk_load_block(&[f32; 65536], u16, &mut [f32; 64]);
+    vk_store_block(&mut [f32; 65536], u16, &[f32; 64]);
+    // Each block of the plane transformed, and transformed back.
+    vk_there_and_back(&mut [f32; 65536]);
 
     vk_encode(&[u8; 46], &mut [u8; 748]);
     // The votes, and the record; the metric with which state 0 ended.

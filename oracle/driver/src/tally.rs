@@ -33,16 +33,6 @@ impl Tally {
         self.different += stage.different;
     }
 
-    /// Shows below the stage's line what is not counted in it.
-    pub fn note(&mut self, what: &str, aside: &Tally) {
-        if aside.compared == 0 {
-            return;
-        }
-        let counts = format!("{} compared, {} different", aside.compared, aside.different);
-        write!(self.report, "    not counted, {what}: {counts}\n{}", aside.report)
-            .expect("a string takes any text");
-    }
-
     /// The stage's line, and the first differences below it.
     pub fn print(&self, name: &str) {
         if self.compared == 0 {

@@ -4,9 +4,9 @@ use crate::random::Random;
 use crate::stages;
 
 /// Votes of one of eight kinds, by the case's number: any numbers from -1 to 1, multiples of 1/1024, few values (so that
-/// ties abound), zeros of both signs, subnormal, huge, among them infinities and NaNs, and any bit pattern.
+/// ties abound), zeros of both signs, subnormal, huge, with an infinity or two or a NaN among them, and any bit pattern.
 pub fn votes<const COUNT: usize>(random: &mut Random, case: u64) -> [f32; COUNT] {
-    std::array::from_fn(|_| {
+    let mut votes = std::array::from_fn(|_| {
         let word = random.next_u32();
         let unit = (word >> 8) as f32 / 8_388_608.0 - 1.0;
         match case % 8 {
@@ -16,15 +16,19 @@ pub fn votes<const COUNT: usize>(random: &mut Random, case: u64) -> [f32; COUNT]
             3 => f32::from_bits(word & 0x8000_0000),
             4 => f32::from_bits(word & 0x807f_ffff),
             5 => unit * f32::MAX,
-            6 => match word % 40 {
-                0 => f32::NAN,
-                1 => f32::INFINITY,
-                2 => f32::NEG_INFINITY,
-                _ => unit,
-            },
+            6 => unit,
             _ => f32::from_bits(word),
         }
-    })
+    });
+    if case % 8 == 6 {
+        let specials = [f32::INFINITY, f32::NEG_INFINITY, f32::NAN];
+        // Every other time without a NaN, which would decide all that comes after it.
+        let kinds = 2 + case / 8 % 2;
+        for _ in 0..=random.below(3) {
+            votes[random.below(COUNT as u64) as usize] = specials[random.below(kinds) as usize];
+        }
+    }
+    votes
 }
 
 /// A vote of +1 for a 0 and -1 for a 1.

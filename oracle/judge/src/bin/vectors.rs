@@ -231,6 +231,105 @@ fn utf8_lists() -> Vec<List> {
     ]
 }
 
+/// Blocks of one value, among them both zeros and what is not finite.
+fn constant_blocks() -> Vec<[f32; 64]> {
+    let values = [
+        0.0,
+        -0.0,
+        1.0,
+        127.5,
+        -255.0,
+        f32::MIN_POSITIVE,
+        -1e-45,
+        1e30,
+        f32::MAX,
+        f32::NEG_INFINITY,
+        f32::NAN,
+    ];
+    values.map(|value| [value; 64]).to_vec()
+}
+
+/// Blocks as the plane has them, blocks of every kind of `votes`, and constant ones.
+fn blocks() -> Vec<[f32; 64]> {
+    let mut random = Random::new(64);
+    let mut blocks = constant_blocks();
+    blocks.extend((0..16).map(|case| votes(&mut random, case)));
+    blocks.extend((0..16).map(|_| votes(&mut random, 0).map(|unit: f32| 127.5 * unit + 127.5)));
+    blocks
+}
+
+/// The block that a case stands in, for its dither.
+fn block_of_case(case: usize) -> usize {
+    23 * case + 5
+}
+
+/// The place of a block's value in the plane.
+fn place(block: usize, index: usize) -> usize {
+    (block / 32 * 8 + index / 8) * 256 + block % 32 * 8 + index % 8
+}
+
+/// The block, its four dither numbers and its bit, 273 bytes.
+fn marking(case: usize, block: &[f32; 64]) -> String {
+    let at = 4 * block_of_case(case);
+    format!("{}{}{:02x}", floats(block), floats(&stages::dither()[at..at + 4]), case % 2)
+}
+
+/// What the Rust's `embed_bits` leaves of each block, and what `block_soft` says of it.
+fn marked_and_votes() -> (Vec<String>, Vec<String>) {
+    let blocks = blocks();
+    let mut plane = vec![0.0; 256 * 256];
+    let mut bits = [0; 1_024];
+    for (case, block) in blocks.iter().enumerate() {
+        bits[block_of_case(case)] = (case % 2) as u8;
+        for (index, &value) in block.iter().enumerate() {
+            plane[place(block_of_case(case), index)] = value;
+        }
+    }
+    let soft = stages::block_soft(&plane);
+    stages::embed_bits(&mut plane, &bits);
+    let lines = blocks.iter().enumerate().map(|(case, block)| {
+        let number = block_of_case(case);
+        let after: [f32; 64] = std::array::from_fn(|index| plane[place(number, index)]);
+        let operand = marking(case, block);
+        (format!("{operand} {}", floats(&after)), format!("{operand} {}", single(soft[number])))
+    });
+    lines.unzip()
+}
+
+fn transformed(transform: fn(&mut [f32; 64])) -> Vec<String> {
+    blocks()
+        .into_iter()
+        .map(|block| {
+            let mut after = block;
+            transform(&mut after);
+            format!("{} {}", floats(&block), floats(&after))
+        })
+        .collect()
+}
+
+fn block_lists() -> Vec<List> {
+    let list = |name, about, lines| List { program: "replay_block", name, about, lines };
+    let (marked, votes) = marked_and_votes();
+    vec![
+        list("forward", "64 f32 and their transform.", transformed(stages::forward)),
+        list(
+            "inverse",
+            "64 f32 and the block whose transform they are.",
+            transformed(stages::inverse),
+        ),
+        list(
+            "mark",
+            "64 f32, four dither numbers and a bit; then the 64 transformed, marked and transformed back.",
+            marked,
+        ),
+        list(
+            "vote",
+            "64 f32, four dither numbers and a byte that is not used; then the vote.",
+            votes,
+        ),
+    ]
+}
+
 fn main() -> std::io::Result<()> {
     let words: Vec<String> = std::env::args().skip(1).collect();
     let [folder, rustc] = &words[..] else {
@@ -242,6 +341,7 @@ fn main() -> std::io::Result<()> {
     lists.extend(crc32_lists());
     lists.extend(utf8_lists());
     lists.extend(convolution_lists());
+    lists.extend(block_lists());
     for list in lists {
         list.write(Path::new(folder), rustc)?;
     }

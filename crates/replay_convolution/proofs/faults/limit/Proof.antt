@@ -54,6 +54,9 @@ loop-less c = search needs
 loop-again : tie.Need-loop-again Inv-loop μ-loop
 loop-again c = search needs
 
+zeroed-requires : tie.Need-zeroed-requires Inv-loop μ-loop
+zeroed-requires c κs = search needs
+
 reads-requires : tie.Need-reads-requires Inv-loop μ-loop
 reads-requires c κs = search needs
 
@@ -83,6 +86,7 @@ limit-spec =
     add-b
     loop-less
     loop-again
+    zeroed-requires
     reads-requires
     returns
     returns-2)

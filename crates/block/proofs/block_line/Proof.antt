@@ -1,0 +1,70 @@
+-- After c turns the first c values are the line's; the measure is what is left of eight. Assumes nothing.
+use borrow.Author.Needs.{needs}
+use mathlib.Core.Path.{_≡_, refl}
+use Prim.Native.Nat.{_-_, _≤_}
+use native.Mathlib.Omega.{arith}
+use lib.ListN.{length, take}
+use Rattle.seq.specs.Tab.{tab, prefix-more, prefix-all}
+use Rattle.block.specs.Grid.{cell}
+use Rattle.block.proofs.block_line.Statement.{statement}
+use Rattle.block.proofs.block_line.Tie as tie
+
+abbrev Inv-loop : tie.InvT-loop
+Inv-loop values r line₀ c₀ line c = (c ≤ 8) × (length line ≡ 8) × (take c line ≡ tab (cell values r) c)
+
+abbrev μ-loop : tie.MeasureT-loop
+μ-loop values r line₀ c₀ line c = 8 - c
+
+loop-holds : tie.Need-loop-holds Inv-loop μ-loop
+unfolding tab
+loop-holds c = (search needs, refl, refl)
+
+mul-line : tie.Need-mul-line Inv-loop μ-loop
+mul-line c = search needs
+
+add-line : tie.Need-add-line Inv-loop μ-loop
+add-line c = search needs
+
+mul-line-2 : tie.Need-mul-line-2 Inv-loop μ-loop
+mul-line-2 c = search needs
+
+element-copy-out-line : tie.Need-element-copy-out-line Inv-loop μ-loop
+element-copy-out-line c = search needs
+
+mul-line-3 : tie.Need-mul-line-3 Inv-loop μ-loop
+mul-line-3 c = search needs
+
+array-write-line : tie.Need-array-write-line Inv-loop μ-loop
+array-write-line c = search needs
+
+add-c : tie.Need-add-c Inv-loop μ-loop
+add-c c = search needs
+
+loop-less : tie.Need-loop-less Inv-loop μ-loop
+loop-less c = search needs
+
+loop-again : tie.Need-loop-again Inv-loop μ-loop
+loop-again c = (search needs, search needs, prefix-more _ _ _ _ (omega arith) refl (c .before .before .loop .inv .2))
+
+returns : tie.Need-returns Inv-loop μ-loop
+returns c =
+    let e : c .before .loop .c ≡ 8 = omega arith in
+    prefix-all _ _ _ (c .before .loop .inv .1) (rw e at (c .before .loop .inv .2))
+
+pub block-line-spec : {M : Type 1} → statement M
+block-line-spec =
+    tie.close
+    (tie.spec
+    Inv-loop
+    μ-loop
+    loop-holds
+    mul-line
+    add-line
+    mul-line-2
+    element-copy-out-line
+    mul-line-3
+    array-write-line
+    add-c
+    loop-less
+    loop-again
+    returns)

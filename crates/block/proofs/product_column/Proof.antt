@@ -1,0 +1,62 @@
+-- After r turns the column's first r values are stored; the measure is what is left of eight. Assumes nothing.
+use borrow.Author.Needs.{needs}
+use mathlib.Core.Path.{_≡_}
+use Prim.Native.Nat.{_-_, _≤_}
+use native.Mathlib.Omega.{arith}
+use Rattle.block.specs.Columns.{column, column-none, column-more}
+use Rattle.block.specs.Product.{dotOf}
+use Rattle.block.proofs.product_column.Statement.{statement}
+use Rattle.block.proofs.product_column.Tie as tie
+
+abbrev Inv-loop : tie.InvT-loop
+Inv-loop a b c p₀ r₀ p r = (r ≤ 8) × (p ≡ column (λ i. dotOf a b i c) c r p₀)
+
+abbrev μ-loop : tie.MeasureT-loop
+μ-loop a b c p₀ r₀ p r = 8 - r
+
+loop-holds : tie.Need-loop-holds Inv-loop μ-loop
+loop-holds c = (search needs, column-none _ _ _)
+
+dot-requires : tie.Need-dot-requires Inv-loop μ-loop
+dot-requires c κs = search needs
+
+mul-p : tie.Need-mul-p Inv-loop μ-loop
+mul-p c = search needs
+
+add-p : tie.Need-add-p Inv-loop μ-loop
+add-p c = search needs
+
+mul-p-2 : tie.Need-mul-p-2 Inv-loop μ-loop
+mul-p-2 c = search needs
+
+element-write-p : tie.Need-element-write-p Inv-loop μ-loop
+element-write-p c = search needs
+
+add-r : tie.Need-add-r Inv-loop μ-loop
+add-r c = search needs
+
+loop-less : tie.Need-loop-less Inv-loop μ-loop
+loop-less c = search needs
+
+loop-again : tie.Need-loop-again Inv-loop μ-loop
+loop-again c = (search needs, rw (c .before .before .loop .inv .1, c .dot .ensures) (column-more _ _ _ _))
+
+returns : tie.Need-returns Inv-loop μ-loop
+returns c = let e : c .before .loop .r ≡ 8 = omega arith in rw e at (c .before .loop .inv .1)
+
+pub product-column-spec : {M : Type 1} → statement M
+product-column-spec =
+    tie.close
+    (tie.spec
+    Inv-loop
+    μ-loop
+    loop-holds
+    dot-requires
+    mul-p
+    add-p
+    mul-p-2
+    element-write-p
+    add-r
+    loop-less
+    loop-again
+    returns)

@@ -1,0 +1,20 @@
+-- The calls' results put in their places. Assumes nothing.
+use borrow.Author.Needs.{needs}
+use lib.Ieee.{ofBits}
+use Rattle.float.specs.Vote.{term}
+use Rattle.block.specs.Soft.{termOf}
+use Rattle.block.proofs.vote_term.Statement.{statement}
+use Rattle.block.proofs.vote_term.Tie as tie
+
+floor-f32-requires : tie.Need-floor-f32-requires
+floor-f32-requires c κs = search needs
+
+min-f32-requires : tie.Need-min-f32-requires
+min-f32-requires c κs = search needs
+
+returns : tie.Need-returns
+unfolding termOf term ofBits
+returns c = rw (c .min-f32 .ensures, c .before .floor-f32 .ensures)
+
+pub vote-term-spec : {M : Type 1} → statement M
+vote-term-spec = tie.close (tie.spec floor-f32-requires min-f32-requires returns)

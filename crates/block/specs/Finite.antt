@@ -1,0 +1,249 @@
+-- Bounds through the transforms, the marking and the vote. `Each x a`: the block's 64 values are finite and at most a in size. A pass gives each value as a sum of eight products with a constant that is at most 1/2, so at most 4 a; a transform is two passes.
+-- Marking moves a coefficient by less than its step and a little. The vote of a block of such values lies from -1 to 1. Generic in a, up to where the sums stay within a format's whole numbers. Assumes nothing.
+use mathlib.Core.Path.{_≡_, refl, sym, _∙_, ap, subst}
+use mathlib.Core.Logic.{inl, inr}
+use mathlib.Core.Bool.{Bool, true, false, not}
+use mathlib.Core.List.{List, [], _∷_}
+use Prim.Native.Nat.{ℕ, zero, suc, _+_, _*_, _^_, _≤_, _<_}
+use native.Mathlib.Nat.{zero-lt-suc, le-refl, mul-le-mul-right, eq-or-lt-of-le}
+use native.Mathlib.Omega.{arith}
+use lib.IntN.{ℤ}
+use lib.Dec.{T, eqb, leb, eqb→eq, leb→le, lit≤}
+use lib.ListN.{length, getD, set}
+use lib.Seq.{getD-set-other}
+use lib.Ieee.{Float, nan, inf, fin, binary32, up, down, add, mul, sub, div, ofBits}
+use lib.Ieee.Fits.{sub-fits}
+use lib.Ieee.Scale.{finite}
+use Rattle.seq.specs.Table.{every, at}
+use Rattle.seq.specs.Sum.{sumTo}
+use Rattle.float.specs.Base.{zero-, two-to}
+use Rattle.float.specs.Bounds.{Within, holds-scaled, holds-whole, within-more, within-finite, add-within, sub-within, mul-within, div-within, roundAway-within, sum-to-within}
+use Rattle.float.specs.Calls.{roundAway}
+use Rattle.float.specs.Vote.{term, meanOfFour, term-within, mean-within}
+use Rattle.block.specs.Grid.{cell, cell-grid}
+use Rattle.block.specs.Matrix.{matrix, entry, turnedEntry}
+use Rattle.block.specs.Transform.{sumOf, throughRows, throughColumns, forwardOf, inverseOf}
+use Rattle.block.specs.Mark.{coefficients, step, halfOf, markedOf, markedBlock}
+use Rattle.block.specs.Soft.{termOf, voteOf}
+
+abbrev pub Each : List Float → ℕ → Type 0
+Each x a = (r c : ℕ) → r < 8 → c < 8 → Within (cell x r c) a 1
+
+-- ---- the matrix
+
+atMostHalf : Float → Bool
+atMostHalf nan = false
+atMostHalf (inf s) = false
+atMostHalf (fin s m e) = leb (m * up e * 2) (1 * down e)
+
+half-within : (x : Float) → T (atMostHalf x) → Within x 1 2
+unfolding atMostHalf
+half-within nan t = absurd t
+half-within (inf s) t = absurd t
+half-within (fin s m e) t = leb→le (m * up e * 2) (1 * down e) t
+
+abbrev halfRow : ℕ → List Float → Bool
+halfRow k row = every (λ i x. atMostHalf x) 0 row
+
+halves : T (every halfRow 0 matrix)
+unfolding ofBits atMostHalf
+halves = tt
+
+eights : T (every (λ k row. eqb (length row) 8) 0 matrix)
+unfolding ofBits
+eights = tt
+
+entry-within : (k i : ℕ) → k < 8 → i < 8 → Within (entry k i) 1 2
+entry-within k i K I =
+    let row = getD matrix k [] in
+    let long : length row ≡ 8 = eqb→eq (length row) 8 (at (λ k row. eqb (length row) 8) matrix [] eights k K) in
+    half-within (entry k i) (at (λ i x. atMostHalf x) row nan (at halfRow matrix [] halves k K) i (omega arith))
+
+-- ---- the passes
+
+-- a sum of eight products
+sum-within : (w v : ℕ → Float) (a : ℕ) → 8 * a ≤ 2 ^ 24 → ((j : ℕ) → j < 8 → Within (w j) 1 2) → ((j : ℕ) → j < 8 → Within (v j) a 1) → Within (sumOf (λ j. mul binary32 (w j) (v j))) (4 * a) 1
+sum-within w v a A W X =
+    within-more (sumOf (λ j. mul binary32 (w j) (v j))) (0 + 8 * a) 2 (4 * a) 1 (zero-lt-suc 1)
+    (sum-to-within binary32 zero- (λ j. mul binary32 (w j) (v j)) 8 a 0 2 (zero-lt-suc 1) (λ i I. holds-scaled binary32 (0 + i * a) 1 (lit≤ tt) (omega (arith, mul-le-mul-right a I))) (le-refl 0) product)
+    (omega arith)
+  where
+    product : (j : ℕ) → j < 8 → Within (mul binary32 (w j) (v j)) a 2
+    product j J =
+        within-more (mul binary32 (w j) (v j)) (1 * a) (2 * 1) a 2 (zero-lt-suc 1)
+        (mul-within binary32 (w j) (v j) 1 2 a 1 (zero-lt-suc 1) (zero-lt-suc 0) (holds-scaled binary32 (1 * a) 1 (lit≤ tt) (omega arith)) (W j J) (X j J))
+        (omega arith)
+
+abbrev Weights : (ℕ → ℕ → Float) → Type 0
+Weights w = (k j : ℕ) → k < 8 → j < 8 → Within (w k j) 1 2
+
+rows-within : (w : ℕ → ℕ → Float) (x : List Float) (a : ℕ) → Weights w → 8 * a ≤ 2 ^ 24 → Each x a → Each (throughRows w x) (4 * a)
+unfolding throughRows
+rows-within w x a W A X r k R K =
+    subst (λ (z : Float). Within z (4 * a) 1) (sym (cell-grid _ r k R K)) (sum-within (w k) (cell x r) a A (λ j J. W k j K J) (λ j J. X r j R J))
+
+columns-within : (w : ℕ → ℕ → Float) (x : List Float) (a : ℕ) → Weights w → 8 * a ≤ 2 ^ 24 → Each x a → Each (throughColumns w x) (4 * a)
+unfolding throughColumns
+columns-within w x a W A X k c K C =
+    subst (λ (z : Float). Within z (4 * a) 1) (sym (cell-grid _ k c K C)) (sum-within (w k) (λ j. cell x j c) a A (λ j J. W k j K J) (λ j J. X j c J C))
+
+pub each-more : (x : List Float) (a b : ℕ) → a ≤ b → Each x a → Each x b
+each-more x a b h X r c R C = within-more (cell x r c) a 1 b 1 (zero-lt-suc 0) (X r c R C) (omega arith)
+
+pub forward-within : (x : List Float) (a : ℕ) → 32 * a ≤ 2 ^ 24 → Each x a → Each (forwardOf x) (16 * a)
+forward-within x a A X =
+    each-more (forwardOf x) (4 * (4 * a)) (16 * a) (omega arith)
+    (columns-within entry (throughRows entry x) (4 * a) entry-within (omega arith) (rows-within entry x a entry-within (omega arith) X))
+
+pub inverse-within : (x : List Float) (a : ℕ) → 32 * a ≤ 2 ^ 24 → Each x a → Each (inverseOf x) (16 * a)
+inverse-within x a A X =
+    each-more (inverseOf x) (4 * (4 * a)) (16 * a) (omega arith)
+    (rows-within turnedEntry (throughColumns turnedEntry x) (4 * a) turned-within (omega arith) (columns-within turnedEntry x a turned-within (omega arith) X))
+  where
+    turned-within : Weights turnedEntry
+    turned-within i k I K = entry-within k i K I
+
+-- ---- the vote
+
+abbrev pub Dither : List Float → Type 0
+Dither u = (k : ℕ) → k < 4 → Within (getD u k nan) 1 1
+
+-- v / 16
+scaled-within : (v : Float) (a : ℕ) → a ≤ 2 ^ 24 → Within v a 1 → Within (div binary32 v step) a 16
+scaled-within v a A h =
+    within-more (div binary32 v step) (a * 1) (1 * 16) a 16 (zero-lt-suc 15)
+    (div-within binary32 v step false a 1 16 1 (zero-lt-suc 0) (zero-lt-suc 15) (zero-lt-suc 0) (holds-scaled binary32 (a * 1) 4 (lit≤ tt) (omega arith)) h (refl, refl))
+    (omega arith)
+
+pub term-of-within : (v u : Float) (a : ℕ) → a + 16 ≤ 2 ^ 24 → Within v a 1 → Within u 1 1 → Within (termOf v u) 1 1
+unfolding termOf
+term-of-within v u a A h k =
+    let x = sub binary32 (div binary32 v step) u in
+    let w : Within x (a + 16) 16 =
+    sub-within binary32 (div binary32 v step) u a 16 16 (zero-lt-suc 15) (holds-scaled binary32 (a + 16) 4 (lit≤ tt) A) (scaled-within v a (omega arith) h) (within-more u 1 1 16 16 (zero-lt-suc 0) k (lit≤ tt)) in
+    term-within binary32 x (sub-fits binary32 (div binary32 v step) u) (within-finite x (a + 16) 16 w)
+
+marked-cell : (x : List Float) (a k : ℕ) → Each x a → k < 4 → Within (getD x (getD coefficients k 0) nan) a 1
+marked-cell x a zero X h = X 1 1 (lit≤ tt) (lit≤ tt)
+marked-cell x a (suc zero) X h = X 1 2 (lit≤ tt) (lit≤ tt)
+marked-cell x a (suc (suc zero)) X h = X 2 1 (lit≤ tt) (lit≤ tt)
+marked-cell x a (suc (suc (suc zero))) X h = X 2 2 (lit≤ tt) (lit≤ tt)
+marked-cell x a (suc (suc (suc (suc k)))) X h = absurd (omega arith)
+
+pub vote-within : (u x : List Float) (a : ℕ) → a + 16 ≤ 2 ^ 24 → Dither u → Each x a → Within (voteOf u x) 1 1
+unfolding voteOf
+vote-within u x a A U X = mean-within binary32 _ (λ k K. term-of-within (getD x (getD coefficients k 0) nan) (getD u k nan) a A (marked-cell x a k X K) (U k K))
+
+-- the vote of a block of samples
+pub block-vote-within : (u x : List Float) (a : ℕ) → a ≤ 2 ^ 19 → Dither u → Each x a → Within (voteOf u (forwardOf x)) 1 1
+block-vote-within u x a A U X = vote-within u (forwardOf x) (16 * a) (omega arith) U (forward-within x a (omega arith) X)
+
+-- ---- where a coefficient is not finite, its term and the vote are no number
+
+pub term-of-none : (v : Float) (s : Bool) (m : ℕ) (e : ℤ) → T (not (finite v)) → termOf v (fin s m e) ≡ nan
+unfolding termOf term
+term-of-none nan s m e h = refl
+term-of-none (inf true) s m e h = refl
+term-of-none (inf false) s m e h = refl
+term-of-none (fin t n d) s m e h = absurd h
+
+add-none : (x : Float) → add binary32 x nan ≡ nan
+unfolding add
+add-none nan = refl
+add-none (inf s) = refl
+add-none (fin s m e) = refl
+
+sum-none : (t : ℕ → Float) (n k : ℕ) → k < n → t k ≡ nan → sumTo (add binary32) zero- n t ≡ nan
+unfolding sumTo add
+sum-none t zero k h e = absurd (omega arith)
+sum-none t (suc n) k h e =
+    elim (eq-or-lt-of-le h) [
+      | inl i ↦ (let j : k ≡ n = omega arith in ap (add binary32 (sumTo (add binary32) zero- n t)) (ap t (sym j) ∙ e) ∙ add-none (sumTo (add binary32) zero- n t))
+      | inr l ↦ ap (λ (z : Float). add binary32 z (t n)) (sum-none t n k (omega arith) e)
+    ]
+
+pub vote-none : (u x : List Float) (k : ℕ) → k < 4 → termOf (getD x (getD coefficients k 0) nan) (getD u k nan) ≡ nan → voteOf u x ≡ nan
+unfolding voteOf meanOfFour
+vote-none u x k K e = ap (λ (z : Float). div binary32 z (two-to 2)) (sum-none (λ k. termOf (getD x (getD coefficients k 0) nan) (getD u k nan)) 4 k K e)
+
+-- ---- marking
+
+-- one more, or one less, that is at most 1 in size
+more : (x y : Float) (n : ℕ) → n + 1 ≤ 2 ^ 24 → Within x n 1 → Within y 1 1 → Within (add binary32 x y) (n + 1) 1
+more x y n N h k = add-within binary32 x y n 1 1 (zero-lt-suc 0) (holds-whole binary32 (n + 1) N) h k
+
+less : (x y : Float) (n : ℕ) → n + 1 ≤ 2 ^ 24 → Within x n 1 → Within y 1 1 → Within (sub binary32 x y) (n + 1) 1
+less x y n N h k = sub-within binary32 x y n 1 1 (zero-lt-suc 0) (holds-whole binary32 (n + 1) N) h k
+
+-- a value that is at most 16 n in size is at most 16 (n + 4) when it is marked
+pub marked-within : (v u h : Float) (n : ℕ) → n + 4 ≤ 2 ^ 20 → Within v (16 * n) 1 → Within u 1 1 → Within h 1 1 → Within (markedOf v u h) (16 * (n + 4)) 1
+unfolding markedOf
+marked-within v u h n N A U H =
+    let q = div binary32 v step in
+    let d = sub binary32 q u in
+    let m = roundAway binary32 (sub binary32 d h) in
+    let s = add binary32 m u in
+    let t = add binary32 s h in
+    let Q : Within q n 1 = within-more q (16 * n) 16 n 1 (zero-lt-suc 15) (scaled-within v (16 * n) (omega arith) A) (omega arith) in
+    let M : Within m (n + 1 + 1) 1 = roundAway-within binary32 (sub binary32 d h) (n + 1 + 1) (holds-whole binary32 (n + 1 + 1) (omega arith)) (less d h (n + 1) (omega arith) (less q u n (omega arith) Q U) H) in
+    let E : Within t (n + 1 + 1 + 1 + 1) 1 = more s h (n + 1 + 1 + 1) (omega arith) (more m u (n + 1 + 1) (omega arith) M U) H in
+    within-more (mul binary32 t step) ((n + 1 + 1 + 1 + 1) * 16) (1 * 1) (16 * (n + 4)) 1 (zero-lt-suc 0)
+    (mul-within binary32 t step (n + 1 + 1 + 1 + 1) 1 16 1 (zero-lt-suc 0) (zero-lt-suc 0) (holds-whole binary32 ((n + 1 + 1 + 1 + 1) * 16) (omega arith)) E (lit≤ tt))
+    (omega arith)
+
+-- a store of a value within the bound keeps it, and any other place holds what it held
+set-within : (x : List Float) (p q : ℕ) (v : Float) (a : ℕ) → Within v a 1 → Within (getD x q nan) a 1 → Within (getD (set x p v) q nan) a 1
+set-within [] p q v a h k = k
+set-within (y ∷ ys) zero zero v a h k = h
+set-within (y ∷ ys) zero (suc q) v a h k = k
+set-within (y ∷ ys) (suc p) zero v a h k = k
+set-within (y ∷ ys) (suc p) (suc q) v a h k = set-within ys p q v a h k
+
+each-set : (x : List Float) (p : ℕ) (v : Float) (a : ℕ) → Within v a 1 → Each x a → Each (set x p v) a
+each-set x p v a h X r c R C = set-within x p (r * 8 + c) v a h (X r c R C)
+
+beside : (x : List Float) (p q : ℕ) (v : Float) (a : ℕ) → (q ≡ p → ⊥) → Within (getD x q nan) a 1 → Within (getD (set x p v) q nan) a 1
+beside x p q v a n h = subst (λ (z : Float). Within z a 1) (sym (getD-set-other x p q v nan n)) h
+
+half-of-within : (bit : ℕ) → bit ≤ 1 → Within (halfOf bit) 1 1
+unfolding halfOf
+half-of-within zero h = lit≤ tt
+half-of-within (suc zero) h = lit≤ tt
+half-of-within (suc (suc b)) h = absurd (omega arith)
+
+pub mark-within : (u x : List Float) (bit n : ℕ) → bit ≤ 1 → n + 4 ≤ 2 ^ 20 → Dither u → Each x (16 * n) → Each (markedBlock u bit x) (16 * (n + 4))
+unfolding markedBlock
+mark-within u x bit n B N U X =
+    each-set x₃ 18 _ b (new (getD x₃ 18 nan) 3 (lit≤ tt) (beside x₂ 17 18 _ a (λ e. omega arith) (beside x₁ 10 18 _ a (λ e. omega arith) (beside x 9 18 _ a (λ e. omega arith) (X 2 2 (lit≤ tt) (lit≤ tt))))))
+    (each-set x₂ 17 _ b (new (getD x₂ 17 nan) 2 (lit≤ tt) (beside x₁ 10 17 _ a (λ e. omega arith) (beside x 9 17 _ a (λ e. omega arith) (X 2 1 (lit≤ tt) (lit≤ tt)))))
+    (each-set x₁ 10 _ b (new (getD x₁ 10 nan) 1 (lit≤ tt) (beside x 9 10 _ a (λ e. omega arith) (X 1 2 (lit≤ tt) (lit≤ tt))))
+    (each-set x 9 _ b (new (getD x 9 nan) 0 (lit≤ tt) (X 1 1 (lit≤ tt) (lit≤ tt)))
+    (each-more x a b (omega arith) X))))
+  where
+    a : ℕ
+    a = 16 * n
+
+    b : ℕ
+    b = 16 * (n + 4)
+
+    put : List Float → ℕ → ℕ → List Float
+    put y k p = set y p (markedOf (getD y p nan) (getD u k nan) (halfOf bit))
+
+    x₁ : List Float
+    x₁ = put x 0 9
+
+    x₂ : List Float
+    x₂ = put x₁ 1 10
+
+    x₃ : List Float
+    x₃ = put x₂ 2 17
+
+    new : (v : Float) (k : ℕ) → k < 4 → Within v (16 * n) 1 → Within (markedOf v (getD u k nan) (halfOf bit)) (16 * (n + 4)) 1
+    new v k K h = marked-within v (getD u k nan) (halfOf bit) n N h (U k K) (half-of-within bit B)
+
+-- ---- a block that is transformed, marked and transformed back: 2 ^ k in size gives 2 ^ (k + 9) at most, from k = 2 on
+
+pub embed-within : (u x : List Float) (bit a : ℕ) → bit ≤ 1 → a + 4 ≤ 2 ^ 15 → Dither u → Each x a → Each (inverseOf (markedBlock u bit (forwardOf x))) (256 * (a + 4))
+embed-within u x bit a B A U X =
+    each-more (inverseOf (markedBlock u bit (forwardOf x))) (16 * (16 * (a + 4))) (256 * (a + 4)) (omega arith)
+    (inverse-within (markedBlock u bit (forwardOf x)) (16 * (a + 4)) (omega arith) (mark-within u (forwardOf x) bit a B (omega arith) U (forward-within x a (omega arith) X)))

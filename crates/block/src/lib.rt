@@ -1,0 +1,185 @@
+// The 8x8 block of document 01, for the crate `resilient`: the transform and its inverse, the marking of a
+// block's four coefficients with a bit, a block's vote, and blocks out of the 256 x 256 plane and into it.
+// Every promise is an equation over the definitions in specs/, for every value, finite or not; that a vote of
+// finite values lies from -1 to 1, and how large values can become, are laws about those definitions.
+mod matrix;
+
+use float::floor_f32;
+use float::min_f32;
+use float::round_f32;
+use matrix::MATRIX;
+use seq::copy_floats;
+ghost use mathlib.Core.Path.{_≡_};
+ghost use Prim.Native.Nat.{_≤_, _<_};
+ghost use lib.ListN.{length};
+ghost use Rattle.block.specs.Grid.{grid, cell, lineOf};
+ghost use Rattle.block.specs.Matrix.{entry, turnedEntry};
+ghost use Rattle.block.specs.Transform.{forwardOf, inverseOf};
+ghost use Rattle.block.specs.Product.{dotOf};
+ghost use Rattle.block.specs.Columns.{column};
+ghost use Rattle.block.specs.Mark.{markedOf, markedBlock};
+ghost use Rattle.block.specs.Soft.{termOf, voteOf};
+ghost use Rattle.block.specs.Plane.{lineAt, loadOf, storedOf};
+
+fn entry_at(k: usize, i: usize) -> f32
+    requires { ⌜ (k < 8) × (i < 8) ⌝ }
+    ensures { λ x. ⌜ x ≡ entry k i ⌝ }
+{
+    let m = MATRIX;
+    m[k][i]
+}
+
+// The matrix, line by line, for `forward` and `inverse`. Made once and lent: a constant is rebuilt at every use.
+pub fn dct_matrix() -> [f32; 64]
+    ensures { λ m. ⌜ m ≡ grid entry ⌝ }
+{
+    let mut m = [0.0f32; 64];
+    for p in 0..64usize {
+        m[p] = entry_at(p / 8, p % 8);
+    }
+    m
+}
+
+// The same with its lines and columns exchanged.
+pub fn dct_turned() -> [f32; 64]
+    ensures { λ m. ⌜ m ≡ grid turnedEntry ⌝ }
+{
+    let mut m = [0.0f32; 64];
+    for p in 0..64usize {
+        m[p] = entry_at(p % 8, p / 8);
+    }
+    m
+}
+
+// Line r of a times column c of b, summed in index order from -0.0, as rustc starts a float sum.
+fn dot(a: &[f32; 64], b: &[f32; 64], r: usize, c: usize) -> f32
+    requires { ⌜ (r < 8) × (c < 8) ⌝ }
+    ensures { λ t. ⌜ t ≡ dotOf (now (a .entry)) (now (b .entry)) r c ⌝ }
+{
+    let mut t = -0.0f32;
+    for j in 0..8usize {
+        t = t + a[r * 8 + j] * b[j * 8 + c];
+    }
+    t
+}
+
+fn product_column(a: &[f32; 64], b: &[f32; 64], c: usize, p: &mut [f32; 64])
+    requires { ⌜ c < 8 ⌝ }
+    ensures { λ _. ⌜ now (p .exit) ≡ column (λ r. dotOf (now (a .entry)) (now (b .entry)) r c) c 8 (now (p .entry)) ⌝ }
+{
+    for r in 0..8usize {
+        p[r * 8 + c] = dot(a, b, r, c);
+    }
+}
+
+// The product of two 8x8 matrices. Columns are the outer loop, which the compiler then vectorises: neighbours
+// in a line stand side by side in b and in the product.
+fn product(a: &[f32; 64], b: &[f32; 64]) -> [f32; 64]
+    ensures { λ r. ⌜ r ≡ grid (dotOf (now (a .entry)) (now (b .entry))) ⌝ }
+{
+    let mut p = [0.0f32; 64];
+    for c in 0..8usize {
+        product_column(a, b, c, &mut p);
+    }
+    p
+}
+
+// The transform of a block: rows, then columns. Line k, column l is afterwards the vertical frequency k and the
+// horizontal one l. The inner product has no name, so that it is not copied.
+pub fn forward(block: &mut [f32; 64], matrix: &[f32; 64], turned: &[f32; 64])
+    requires { ⌜ (now matrix ≡ grid entry) × (now turned ≡ grid turnedEntry) ⌝ }
+    ensures { λ _. ⌜ now (block .exit) ≡ forwardOf (now (block .entry)) ⌝ }
+{
+    *block = product(matrix, &product(block, turned));
+}
+
+// The way back: columns, then rows.
+pub fn inverse(block: &mut [f32; 64], matrix: &[f32; 64], turned: &[f32; 64])
+    requires { ⌜ (now matrix ≡ grid entry) × (now turned ≡ grid turnedEntry) ⌝ }
+    ensures { λ _. ⌜ now (block .exit) ≡ inverseOf (now (block .entry)) ⌝ }
+{
+    *block = product(&product(turned, block), matrix);
+}
+
+fn marked(v: f32, u: f32, half: f32) -> f32
+    ensures { λ r. ⌜ r ≡ markedOf v u half ⌝ }
+{
+    (round_f32(v / 16.0 - u - half) + u + half) * 16.0
+}
+
+// Marks the coefficients (1,1), (1,2), (2,1), (2,2) of a transformed block with the bit, by the block's four
+// dither numbers.
+pub fn mark_block(values: &mut [f32; 64], u: [f32; 4], bit: u8)
+    ensures { λ _. ⌜ now (values .exit) ≡ markedBlock u bit (now (values .entry)) ⌝ }
+{
+    let half = bit as f32 * 0.5;
+    values[9] = marked(values[9], u[0], half);
+    values[10] = marked(values[10], u[1], half);
+    values[17] = marked(values[17], u[2], half);
+    values[18] = marked(values[18], u[3], half);
+}
+
+fn vote_term(v: f32, u: f32) -> f32
+    ensures { λ r. ⌜ r ≡ termOf v u ⌝ }
+{
+    let x = v / 16.0 - u;
+    let r = x - floor_f32(x);
+    1.0 - 4.0 * min_f32(r, 1.0 - r)
+}
+
+// What a transformed block says of its bit: from 1, a clear 0, to -1, a clear 1, where its values are finite.
+pub fn block_vote(values: &[f32; 64], u: [f32; 4]) -> f32
+    ensures { λ r. ⌜ r ≡ voteOf u (now (values .entry)) ⌝ }
+{
+    let sum = -0.0f32
+        + vote_term(values[9], u[0])
+        + vote_term(values[10], u[1])
+        + vote_term(values[17], u[2])
+        + vote_term(values[18], u[3]);
+    sum / 4.0
+}
+
+// Where line r of block b starts in the plane.
+fn line_at(b: usize, r: usize) -> usize
+    requires { ⌜ (b < 1024) × (r < 8) ⌝ }
+    ensures { λ at. ⌜ at ≡ lineAt b r ⌝ }
+{
+    (b / 32 * 8 + r) * 256 + b % 32 * 8
+}
+
+// Block b of the plane, which stands first in what is lent.
+pub fn load_block(plane: &[f32], b: usize) -> [f32; 64]
+    requires { ⌜ (b < 1024) × (65536 ≤ length (now plane)) ⌝ }
+    ensures { λ x. ⌜ x ≡ loadOf (now (plane .entry)) b ⌝ }
+{
+    let mut values = [0.0f32; 64];
+    for r in 0..8usize {
+        let at = line_at(b, r);
+        let end = at + 8;
+        copy_floats(&plane[at..end], &mut values, r * 8);
+    }
+    values
+}
+
+fn block_line(values: &[f32; 64], r: usize) -> [f32; 8]
+    requires { ⌜ r < 8 ⌝ }
+    ensures { λ l. ⌜ l ≡ lineOf (cell (now (values .entry))) r ⌝ }
+{
+    let mut line = [0.0f32; 8];
+    for c in 0..8usize {
+        line[c] = values[r * 8 + c];
+    }
+    line
+}
+
+// Block b of the plane becomes the values; every other place of what is lent stays.
+pub fn store_block(plane: &mut [f32], b: usize, values: &[f32; 64])
+    requires { ⌜ (b < 1024) × (65536 ≤ length (now plane)) ⌝ }
+    ensures { λ _. ⌜ now (plane .exit) ≡ storedOf (now (plane .entry)) b (now (values .entry)) ⌝ }
+{
+    for r in 0..8usize {
+        let at = line_at(b, r);
+        let line = block_line(values, r);
+        copy_floats(&line, plane, at);
+    }
+}

@@ -1,0 +1,140 @@
+// Replays the Rust's stored answers for crate `block`: blocks of 64 floats by their bits, four bytes each, the high
+// one first, and what the Rust makes of them. Every NaN is written as one pattern. Prints for each list how many
+// were compared and how many differ.
+use lists::Field;
+ghost use Prim.Native.Nat.{_+_, _≤_, _<_};
+ghost use mathlib.Core.Path.{_≡_};
+ghost use lib.ListN.{length};
+ghost use Rattle.lists.specs.Fields.{Within};
+ghost use Rattle.block.specs.Grid.{grid};
+ghost use Rattle.block.specs.Matrix.{entry, turnedEntry};
+
+enum Stage {
+    Forward,
+    Inverse,
+    Mark,
+    Vote,
+}
+
+fn wide(byte: u8) -> u32
+    ensures { λ r. ⌜ r < 256 ⌝ }
+{
+    byte as u32
+}
+
+fn word(raw: &[u8], at: usize) -> u32
+    requires { ⌜ at + 4 ≤ length (now raw) ⌝ }
+{
+    let high = wide(raw[at]) * 256 + wide(raw[at + 1]);
+    let low = wide(raw[at + 2]) * 256 + wide(raw[at + 3]);
+    high * 65536 + low
+}
+
+fn block_of(raw: &[u8]) -> [f32; 64]
+    requires { ⌜ 256 ≤ length (now raw) ⌝ }
+{
+    let mut values = [0.0f32; 64];
+    for i in 0..64usize {
+        values[i] = float::f32_from_bits(word(raw, 4 * i));
+    }
+    values
+}
+
+fn dither_of(raw: &[u8]) -> [f32; 4]
+    requires { ⌜ 272 ≤ length (now raw) ⌝ }
+{
+    [
+        float::f32_from_bits(word(raw, 256)),
+        float::f32_from_bits(word(raw, 260)),
+        float::f32_from_bits(word(raw, 264)),
+        float::f32_from_bits(word(raw, 268)),
+    ]
+}
+
+fn has_bits(x: f32, bits: u32) -> bool {
+    if x != x {
+        return bits == 0x7fc0_0000;
+    }
+    f32::to_bits(x) == bits
+}
+
+fn same(values: &[f32; 64], raw: &[u8]) -> bool
+    requires { ⌜ 256 ≤ length (now raw) ⌝ }
+{
+    for i in 0..64usize {
+        if !has_bits(values[i], word(raw, 4 * i)) {
+            return false;
+        }
+    }
+    true
+}
+
+// What `block` makes of the stored bytes: a block, then its four dither numbers and its bit. A vote stands at the
+// start of a block of zeros.
+fn answer(stage: Stage, raw: &[u8], matrix: &[f32; 64], turned: &[f32; 64]) -> [f32; 64]
+    requires { ⌜ (273 ≤ length (now raw)) × (now matrix ≡ grid entry) × (now turned ≡ grid turnedEntry) ⌝ }
+{
+    let mut values = block_of(raw);
+    if let Stage::Inverse = stage {
+        block::inverse(&mut values, matrix, turned);
+        return values;
+    }
+    block::forward(&mut values, matrix, turned);
+    match stage {
+        Stage::Mark => {
+            block::mark_block(&mut values, dither_of(raw), raw[272]);
+            block::inverse(&mut values, matrix, turned);
+            values
+        }
+        Stage::Vote => {
+            let mut vote = [0.0f32; 64];
+            vote[0] = block::block_vote(&values, dither_of(raw));
+            vote
+        }
+        _ => values,
+    }
+}
+
+fn agrees(text: &[u8], stage: Stage, operand: Field, result: Field) -> bool
+    requires { ⌜ Within (now text) operand × Within (now text) result ⌝ }
+{
+    let matrix = block::dct_matrix();
+    let turned = block::dct_turned();
+    let mut raw = [0u8; 273];
+    let mut expected = [0u8; 256];
+    let one = lists::hex_bytes(text, operand, &mut raw);
+    let other = lists::hex_bytes(text, result, &mut expected);
+    one.good && other.good && same(&answer(stage, &raw, &matrix, &turned), &expected)
+}
+
+fn replay(text: &[u8], name: &[u8], stage: Stage) {
+    let mut compared: u64 = 0;
+    let mut different: u64 = 0;
+    let mut at = 0;
+    while at < text.len() {
+        let operand = lists::next(text, at);
+        let result = lists::next(text, operand.end);
+        at = result.end;
+        if operand.start < operand.end {
+            compared += 1;
+            if !agrees(text, stage, operand, result) {
+                different += 1;
+            }
+        }
+    }
+    lists::report(name, compared, different);
+}
+
+// The list in the file `name`.
+fn list(name: &[u8], stage: Stage) {
+    let mut text = lists::room();
+    let count = lists::load(name, &mut text);
+    replay(&text[..count], name, stage);
+}
+
+fn main() {
+    list(b"forward.txt", Stage::Forward);
+    list(b"inverse.txt", Stage::Inverse);
+    list(b"mark.txt", Stage::Mark);
+    list(b"vote.txt", Stage::Vote);
+}

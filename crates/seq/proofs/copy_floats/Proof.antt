@@ -1,0 +1,76 @@
+-- After k turns the first k values of `from` are pasted; the measure is what is left. Assumes nothing.
+use borrow.Author.Needs.{needs}
+use mathlib.Core.Path.{_≡_, refl}
+use Prim.Native.Nat.{_+_, _-_, _≤_, _<_}
+use native.Mathlib.Omega.{arith}
+use native.Mathlib.Numerals.{add-one}
+use denote.Ref.{now}
+use lib.ListN.{length}
+use lib.Ieee.{nan}
+use lib.Seq.{paste, paste-zero, paste-suc}
+use Rattle.seq.proofs.copy_floats.Statement.{statement}
+use Rattle.seq.proofs.copy_floats.Tie as tie
+
+abbrev Inv-loop : tie.InvT-loop
+Inv-loop from to₀ at k₀ k-end to k = (k-end ≡ length from) × (k ≤ k-end) × (to ≡ paste to₀ at from k) × (length to ≡ length to₀)
+
+abbrev μ-loop : tie.MeasureT-loop
+μ-loop from to₀ at k₀ k-end to k = k-end - k
+
+loop-holds : tie.Need-loop-holds Inv-loop μ-loop
+loop-holds c = (search needs, search needs, paste-zero (now (c .args .to)) (c .args .at) (now (c .args .from)), refl)
+
+mul-to : tie.Need-mul-to Inv-loop μ-loop
+mul-to c = search needs
+
+shared-slice-read-to : tie.Need-shared-slice-read-to Inv-loop μ-loop
+shared-slice-read-to c = search needs
+
+add-to : tie.Need-add-to Inv-loop μ-loop
+add-to c = search needs
+
+mul-to-2 : tie.Need-mul-to-2 Inv-loop μ-loop
+mul-to-2 c = search needs
+
+slice-write-to : tie.Need-slice-write-to Inv-loop μ-loop
+slice-write-to c = search needs
+
+add-k : tie.Need-add-k Inv-loop μ-loop
+add-k c = search needs
+
+loop-less : tie.Need-loop-less Inv-loop μ-loop
+loop-less c = search needs
+
+loop-again : tie.Need-loop-again Inv-loop μ-loop
+loop-again c =
+    let start = c .before .before .before .args in
+    let k = c .before .before .loop .k in
+    let room : start .at + k < length (now (start .to)) = omega arith in
+    let more : k < length (now (start .from)) = omega arith in
+    (search needs, search needs, rw (c .before .before .loop .inv .2, add-one) (paste-suc (now (start .to)) (start .at) (now (start .from)) k nan room more), search needs)
+
+same-length : tie.Need-same-length Inv-loop μ-loop
+same-length c = search needs
+
+returns : tie.Need-returns Inv-loop μ-loop
+returns c =
+    let e : c .before .loop .k ≡ length (now (c .before .before .args .from)) = omega arith in
+    rw e at (c .before .loop .inv .2)
+
+pub copy-floats-spec : {M : Type 1} → statement M
+copy-floats-spec =
+    tie.close
+    (tie.spec
+    Inv-loop
+    μ-loop
+    loop-holds
+    mul-to
+    shared-slice-read-to
+    add-to
+    mul-to-2
+    slice-write-to
+    add-k
+    loop-less
+    loop-again
+    same-length
+    returns)

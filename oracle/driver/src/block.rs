@@ -1,0 +1,138 @@
+//! The stage block: the transform and its inverse, marking, votes, and blocks out of the plane and into it.
+
+use judge::random::Random;
+use judge::soft::votes;
+use judge::stages;
+
+use crate::ours;
+use crate::tally::{Tally, Value};
+
+/// Planes of 1,024 blocks at scale 1.
+const PLANES: u64 = 200;
+/// The samples of a plane.
+const PLANE_LEN: usize = 256 * 256;
+
+fn same(mine: &[f32], theirs: &[f32]) -> bool {
+    mine.len() == theirs.len() && mine.iter().zip(theirs).all(|(mine, theirs)| mine.same(*theirs))
+}
+
+/// A plane whose blocks are of the kinds of `votes`, as they are and as samples of a picture are.
+fn plane(random: &mut Random, case: u64) -> Box<[f32; PLANE_LEN]> {
+    let mut plane = vec![0.0; PLANE_LEN];
+    for (row, line) in plane.chunks_exact_mut(64).enumerate() {
+        let kind = case + row as u64 / 4;
+        let values: [f32; 64] = votes(random, kind);
+        let samples = case % 2 == 0;
+        line.copy_from_slice(&values.map(|v| if samples { 127.5 * v + 127.5 } else { v }));
+    }
+    plane.into_boxed_slice().try_into().expect("a plane")
+}
+
+/// The functions that ours has for a block.
+struct Block {
+    forward: unsafe extern "C" fn(&mut [f32; 64]),
+    inverse: unsafe extern "C" fn(&mut [f32; 64]),
+    mark: unsafe extern "C" fn(&mut [f32; 64], &[f32; 4], u8),
+    vote: unsafe extern "C" fn(&[f32; 64], &[f32; 4]) -> f32,
+    load: unsafe extern "C" fn(&[f32; PLANE_LEN], u16, &mut [f32; 64]),
+    store: unsafe extern "C" fn(&mut [f32; PLANE_LEN], u16, &[f32; 64]),
+}
+
+impl Block {
+    fn found() -> Option<Self> {
+        Some(Self {
+            forward: ours::vk_forward.function?,
+            inverse: ours::vk_inverse.function?,
+            mark: ours::vk_mark_block.function?,
+            vote: ours::vk_block_vote.function?,
+            load: ours::vk_load_block.function?,
+            store: ours::vk_store_block.function?,
+        })
+    }
+
+    fn load(&self, plane: &[f32; PLANE_LEN], block: usize) -> [f32; 64] {
+        let mut values = [f32::NAN; 64];
+        unsafe { (self.load)(plane, block as u16, &mut values) };
+        values
+    }
+
+    fn forward(&self, mut values: [f32; 64]) -> [f32; 64] {
+        unsafe { (self.forward)(&mut values) };
+        values
+    }
+
+    fn inverse(&self, mut values: [f32; 64]) -> [f32; 64] {
+        unsafe { (self.inverse)(&mut values) };
+        values
+    }
+
+    /// The Rust's `block_soft` by ours.
+    fn votes(&self, plane: &[f32; PLANE_LEN], dither: &[[f32; 4]]) -> Vec<f32> {
+        let vote = |(block, u): (usize, &[f32; 4])| {
+            let values = self.forward(self.load(plane, block));
+            unsafe { (self.vote)(&values, u) }
+        };
+        dither.iter().enumerate().map(vote).collect()
+    }
+
+    /// The Rust's `embed_bits` by ours.
+    fn embed(&self, plane: &mut [f32; PLANE_LEN], bits: &[u8; 1024], dither: &[[f32; 4]]) {
+        for (block, (u, &bit)) in dither.iter().zip(bits).enumerate() {
+            let mut values = self.forward(self.load(plane, block));
+            unsafe { (self.mark)(&mut values, u, bit) };
+            let values = self.inverse(values);
+            unsafe { (self.store)(plane, block as u16, &values) };
+        }
+    }
+}
+
+fn compare_transforms(tally: &mut Tally, ours: &Block, plane: &[f32; PLANE_LEN]) {
+    for values in plane.as_chunks::<64>().0 {
+        let mut theirs = *values;
+        stages::forward(&mut theirs);
+        tally.count(same(&ours.forward(*values), &theirs), || format!("vk_forward {values:?}"));
+        let mut theirs = *values;
+        stages::inverse(&mut theirs);
+        tally.count(same(&ours.inverse(*values), &theirs), || format!("vk_inverse {values:?}"));
+    }
+}
+
+fn compare_plane(
+    tally: &mut Tally,
+    ours: &Block,
+    random: &mut Random,
+    case: u64,
+    dither: &[[f32; 4]],
+) {
+    let mut mine = plane(random, case);
+    compare_transforms(tally, ours, &mine);
+    let mine_votes = ours.votes(&mine, dither);
+    for (block, (mine, theirs)) in mine_votes.iter().zip(stages::block_soft(&mine[..])).enumerate()
+    {
+        tally.count(mine.same(theirs), || format!("the vote of block {block}, plane {case}"));
+    }
+    let bits: [u8; 1024] = random.array::<1024>().map(|byte| byte % 2);
+    let mut theirs = mine.clone();
+    ours.embed(&mut mine, &bits, dither);
+    stages::embed_bits(&mut theirs[..], &bits);
+    let lines = mine.chunks_exact(64).zip(theirs.chunks_exact(64));
+    for (line, (mine, theirs)) in lines.enumerate() {
+        tally.count(same(mine, theirs), || {
+            format!("the marked plane {case}, samples from {}", line * 64)
+        });
+    }
+}
+
+pub fn compare(random: &mut Random, scale: u64) -> Tally {
+    let mut tally = Tally::default();
+    let Some(ours) = Block::found() else {
+        tally.missing.push("vk_forward and the others of a block");
+        return tally;
+    };
+    let numbers = stages::dither();
+    let dither = numbers.as_chunks::<4>().0;
+    for case in 0..scale * PLANES {
+        compare_plane(&mut tally, &ours, random, case, dither);
+    }
+    tally
+}
