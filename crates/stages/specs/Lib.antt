@@ -1,3 +1,4 @@
 pub mod Bulk
 pub mod Cipher
 pub mod Blocks
+pub mod Records

@@ -5,3 +5,4 @@ mod cipher;
 mod code;
 mod float32;
 mod float64;
+mod records;

@@ -10,6 +10,7 @@ mod float;
 mod layout;
 mod lent;
 mod ours;
+mod record;
 mod sweep;
 mod tally;
 mod utf8;
@@ -22,18 +23,19 @@ use tally::Tally;
 type Stage = fn(&mut Random, u64) -> Tally;
 
 /// The stages in the order of the crates.
-const STAGES: [(&str, Stage); 7] = [
+const STAGES: [(&str, Stage); 8] = [
     ("float", float::compare),
     ("crc32", crc32::compare),
     ("chacha20", chacha20::compare),
     ("utf8", utf8::compare),
+    ("record", record::compare),
     ("layout", layout::compare),
     ("convolution", convolution::compare),
     ("block", block::compare),
 ];
 
 /// The stages whose comparison comes with their crate.
-const LATER: [&str; 4] = ["record", "resample", "resilient", "votes"];
+const LATER: [&str; 3] = ["resample", "resilient", "votes"];
 
 fn compare(seed: u64, scale: u64) -> Tally {
     let mut total = Tally::default();

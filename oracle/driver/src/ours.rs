@@ -54,6 +54,11 @@ ours! {
     vk_utf8_well_formed(*const u8, usize) -> bool;
     vk_utf8_counted(*const u8, usize) -> bool;
 
+    // Text, whether there is a key, key, salt; record and number given. 0, or the refusal.
+    vk_record(*const u8, usize, bool, &[u8; 32], &[u8; 4], &mut [u8; 46], &mut u64) -> u8;
+    // Record, whether there is a key, key; text, length and number given. 0, or the refusal.
+    vk_parse(&[u8; 46], bool, &[u8; 32], &mut [u8; 32], &mut usize, &mut u64) -> u8;
+
     vk_block_bits(&[u8; 748], &mut [u8; 1024]);
     vk_gather(&[f32; 1024], &mut [f32; 748]);
     // The numbers of four picture blocks.

@@ -5,6 +5,7 @@ pub mod edges;
 pub mod hex;
 pub mod picture;
 pub mod random;
+pub mod records;
 pub mod refusal;
 pub mod resilient;
 pub mod soft;

@@ -7,7 +7,7 @@ use std::path::Path;
 
 use judge::random::Random;
 use judge::soft::{damaged, sure, votes};
-use judge::{crc32, edges, hex, stages, texts};
+use judge::{crc32, edges, hex, records, stages, texts};
 
 /// A replay program reads a list whole into a buffer of this size.
 const LARGEST: usize = 256 * 1_024;
@@ -330,6 +330,22 @@ fn block_lists() -> Vec<List> {
     ]
 }
 
+fn record_lists() -> Vec<List> {
+    let list = |name, about, lines| List { program: "replay_record", name, about, lines };
+    vec![
+        list(
+            "build",
+            "text, key, salt; refusal (0 for none), number given, and the record, zeros where refused.",
+            records::built(),
+        ),
+        list(
+            "parse",
+            "record, key; refusal (0 for none), number given, length, and the text with zeros after it.",
+            records::parsed(),
+        ),
+    ]
+}
+
 fn main() -> std::io::Result<()> {
     let words: Vec<String> = std::env::args().skip(1).collect();
     let [folder, rustc] = &words[..] else {
@@ -340,6 +356,7 @@ fn main() -> std::io::Result<()> {
     lists.extend(double_lists());
     lists.extend(crc32_lists());
     lists.extend(utf8_lists());
+    lists.extend(record_lists());
     lists.extend(convolution_lists());
     lists.extend(block_lists());
     for list in lists {

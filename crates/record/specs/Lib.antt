@@ -1,0 +1,5 @@
+pub mod Record
+pub mod Answers
+pub mod Laws
+pub mod Opened
+pub mod Theorems

@@ -1,0 +1,25 @@
+-- The struct taken apart, field by field. Assumes nothing.
+use borrow.Author.Needs.{needs}
+use mathlib.Core.Path.{ap, _∙_}
+use Rattle.record.specs.declared.Reading.{Reading}
+use Rattle.stages.specs.Records.{codeOf, givenFor}
+use Rattle.stages.proofs.records.vk_parse.Statement.{statement}
+use Rattle.stages.proofs.records.vk_parse.Tie as tie
+
+parse-record-requires : tie.Need-parse-record-requires
+parse-record-requires c κs = search needs
+
+given-for-requires : tie.Need-given-for-requires
+given-for-requires c κs = search needs
+
+code-requires : tie.Need-code-requires
+code-requires c κs = search needs
+
+returns : tie.Need-returns
+returns c =
+    let made = c .before .before .before .parse-record .ensures in
+    let answer = ap (λ (x : Reading). x .answer) made in
+    (c .code .ensures ∙ ap codeOf answer, (ap (λ (x : Reading). x .text) made, (ap (λ (x : Reading). x .length) made, c .before .given-for .ensures ∙ ap givenFor answer)))
+
+pub vk-parse-spec : {M : Type 1} → statement M
+vk-parse-spec = tie.close (tie.spec parse-record-requires given-for-requires code-requires returns)

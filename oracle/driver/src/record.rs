@@ -1,0 +1,117 @@
+//! The stage record: texts built with a key and without, and records of all kinds read.
+
+use judge::hex;
+use judge::random::Random;
+use judge::records::{KEYED, PLAIN, ROOM, sealed, with_outer};
+use judge::refusal::Refused;
+use judge::resilient::{self, Key, Lock};
+
+use crate::ours;
+use crate::tally::Tally;
+
+/// Random texts built, and random records read, at scale 1.
+const CASES: u64 = 100_000;
+
+fn refusal<T>(answer: &Result<T, Refused>) -> (u8, u64) {
+    answer.as_ref().err().map_or((0, 0), |refused| (refused.number, refused.given))
+}
+
+/// Characters by chance, at most so many bytes, of which one byte in places is another.
+fn text(random: &mut Random, most: u64) -> Vec<u8> {
+    let length = random.below(most + 1) as usize;
+    let mut text = String::new();
+    while text.len() < length {
+        let bits = 7 + random.below(15) * random.below(2);
+        text.push(char::from_u32(random.below(1 << bits) as u32).unwrap_or('\u{d7ff}'));
+    }
+    let mut text = text.into_bytes();
+    text.truncate(if random.below(4) == 0 { length } else { text.len() });
+    if !text.is_empty() && random.below(4) == 0 {
+        let place = random.below(text.len() as u64) as usize;
+        text[place] = random.next_u32() as u8;
+    }
+    text
+}
+
+fn compare_built(tally: &mut Tally, random: &mut Random, scale: u64) {
+    let Some(ours) = ours::vk_record.function else {
+        tally.missing.push(ours::vk_record.name);
+        return;
+    };
+    for _ in 0..scale * CASES {
+        let text = text(random, 40);
+        let lock = Lock { key: random.array(), salt: random.array() };
+        let keyed = random.below(2) == 0;
+        let theirs = resilient::record(&text, keyed.then_some(lock));
+        let (mut record, mut given) = (random.array(), random.next_u64());
+        let (at, count) = (text.as_ptr(), text.len());
+        let number =
+            unsafe { ours(at, count, keyed, &lock.key, &lock.salt, &mut record, &mut given) };
+        let equal = (number, given) == refusal(&theirs) && record == theirs.unwrap_or([0; 46]);
+        tally.count(equal, || {
+            let key = hex::of_bytes(&lock.key);
+            format!("vk_record {} key {keyed} {key}: ours {number} {given}", hex::of_bytes(&text))
+        });
+    }
+}
+
+/// A record with both CRCs right for a key: a good one, or one with a wrong mode, length, text or padding.
+fn whole(random: &mut Random, key: Key) -> [u8; 46] {
+    let text = text(random, ROOM as u64);
+    let mode = match random.below(8) {
+        0 => random.next_u32() as u8,
+        case => PLAIN + (case % 2) as u8,
+    };
+    let mut room = [0; ROOM];
+    let length = text.len().min(ROOM);
+    room[..length].copy_from_slice(&text[..length]);
+    if random.below(8) == 0 {
+        room[random.below(ROOM as u64) as usize] = random.next_u32() as u8;
+    }
+    let length = if random.below(8) == 0 { random.next_u32() as u8 } else { length as u8 };
+    sealed(mode, random.array(), length, room, (mode == KEYED).then_some(key))
+}
+
+/// The same, and in places one bit wrong, with the outer CRC as it was or set right.
+fn any(random: &mut Random, key: Key) -> [u8; 46] {
+    let mut record = whole(random, key);
+    if random.below(4) == 0 {
+        record[random.below(46) as usize] ^= 1 << random.below(8);
+        if random.below(2) == 0 {
+            record = with_outer(record);
+        }
+    }
+    record
+}
+
+fn compare_parsed(tally: &mut Tally, random: &mut Random, scale: u64) {
+    let Some(ours) = ours::vk_parse.function else {
+        tally.missing.push(ours::vk_parse.name);
+        return;
+    };
+    for _ in 0..scale * CASES {
+        let right = random.array();
+        let record = any(random, right);
+        let key = if random.below(8) == 0 { random.array() } else { right };
+        let keyed = (record[0] == KEYED) != (random.below(8) == 0);
+        let theirs = resilient::parse(record, keyed.then_some(key));
+        let (mut text, mut length, mut given) = (random.array(), 99, random.next_u64());
+        let number = unsafe { ours(&record, keyed, &key, &mut text, &mut length, &mut given) };
+        let answer = refusal(&theirs);
+        let said = theirs.unwrap_or_default();
+        let mut expected = [0; ROOM];
+        expected[..said.len()].copy_from_slice(said.as_bytes());
+        let equal = (number, given) == answer && length == said.len() && text == expected;
+        tally.count(equal, || {
+            let key = hex::of_bytes(&key);
+            format!("vk_parse {} key {keyed} {key}: ours {number} {given}", hex::of_bytes(&record))
+        });
+    }
+}
+
+pub fn compare(random: &mut Random, scale: u64) -> Tally {
+    let mut tally = Tally::default();
+    compare_built(&mut tally, random, scale);
+    compare_parsed(&mut tally, random, scale);
+    tally
+}
