@@ -1,7 +1,7 @@
 // The 8x8 block of document 01, for the crate `resilient`: the transform and its inverse, the marking of a
 // block's four coefficients with a bit, a block's vote, and blocks out of the 256 x 256 plane and into it.
 // Every promise is an equation over the definitions in specs/, for every value, finite or not; that a vote of
-// finite values lies from -1 to 1, and how large values can become, are laws about those definitions.
+// values within a bound lies from -1 to 1, and how large values can become, are laws about those definitions.
 mod matrix;
 
 use float::floor_f32;
@@ -127,7 +127,7 @@ fn vote_term(v: f32, u: f32) -> f32
     1.0 - 4.0 * min_f32(r, 1.0 - r)
 }
 
-// What a transformed block says of its bit: from 1, a clear 0, to -1, a clear 1, where its values are finite.
+// What a transformed block says of its bit: from 1, a clear 0, to -1, a clear 1, for samples of a picture.
 pub fn block_vote(values: &[f32; 64], u: [f32; 4]) -> f32
     ensures { λ r. ⌜ r ≡ voteOf u (now (values .entry)) ⌝ }
 {

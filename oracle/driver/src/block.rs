@@ -16,14 +16,20 @@ fn same(mine: &[f32], theirs: &[f32]) -> bool {
     mine.len() == theirs.len() && mine.iter().zip(theirs).all(|(mine, theirs)| mine.same(*theirs))
 }
 
-/// A plane whose blocks are of the kinds of `votes`, as they are and as samples of a picture are.
+/// The place of a block's value in the plane.
+fn place(block: usize, index: usize) -> usize {
+    (block / 32 * 8 + index / 8) * 256 + block % 32 * 8 + index % 8
+}
+
+/// A plane of 1,024 blocks: in even planes samples of a picture, whole or not; in odd ones the kinds of `votes` in turn.
 fn plane(random: &mut Random, case: u64) -> Box<[f32; PLANE_LEN]> {
     let mut plane = vec![0.0; PLANE_LEN];
-    for (row, line) in plane.chunks_exact_mut(64).enumerate() {
-        let kind = case + row as u64 / 4;
+    for block in 0..1024 {
+        let kind = if case % 2 == 0 { block as u64 % 3 } else { case / 2 + block as u64 };
         let values: [f32; 64] = votes(random, kind);
-        let samples = case % 2 == 0;
-        line.copy_from_slice(&values.map(|v| if samples { 127.5 * v + 127.5 } else { v }));
+        for (index, value) in values.into_iter().enumerate() {
+            plane[place(block, index)] = if case % 2 == 0 { 127.5 * value + 127.5 } else { value };
+        }
     }
     plane.into_boxed_slice().try_into().expect("a plane")
 }
@@ -87,13 +93,14 @@ impl Block {
 }
 
 fn compare_transforms(tally: &mut Tally, ours: &Block, plane: &[f32; PLANE_LEN]) {
-    for values in plane.as_chunks::<64>().0 {
-        let mut theirs = *values;
+    for block in 0..1024 {
+        let values = std::array::from_fn(|index| plane[place(block, index)]);
+        let mut theirs = values;
         stages::forward(&mut theirs);
-        tally.count(same(&ours.forward(*values), &theirs), || format!("vk_forward {values:?}"));
-        let mut theirs = *values;
+        tally.count(same(&ours.forward(values), &theirs), || format!("vk_forward {values:?}"));
+        let mut theirs = values;
         stages::inverse(&mut theirs);
-        tally.count(same(&ours.inverse(*values), &theirs), || format!("vk_inverse {values:?}"));
+        tally.count(same(&ours.inverse(values), &theirs), || format!("vk_inverse {values:?}"));
     }
 }
 
@@ -107,11 +114,17 @@ fn compare_plane(
     let mut mine = plane(random, case);
     compare_transforms(tally, ours, &mine);
     let mine_votes = ours.votes(&mine, dither);
+    if case % 2 == 0 {
+        let telling = mine_votes.iter().filter(|vote| vote.abs() < 1.0).count();
+        assert!(telling > 900, "a plane of samples has votes of all sizes");
+    }
     for (block, (mine, theirs)) in mine_votes.iter().zip(stages::block_soft(&mine[..])).enumerate()
     {
         tally.count(mine.same(theirs), || format!("the vote of block {block}, plane {case}"));
     }
-    let bits: [u8; 1024] = random.array::<1024>().map(|byte| byte % 2);
+    // A bit, or now and then any byte.
+    let bits: [u8; 1024] =
+        random.array::<1024>().map(|byte| if byte < 16 { byte } else { byte % 2 });
     let mut theirs = mine.clone();
     ours.embed(&mut mine, &bits, dither);
     stages::embed_bits(&mut theirs[..], &bits);
