@@ -3,3 +3,8 @@ pub mod Permutation
 pub mod Places
 pub mod Loops
 pub mod Dither
+pub mod Shuffle
+pub mod Draws
+pub mod Entries
+pub mod Distinct
+pub mod Examples

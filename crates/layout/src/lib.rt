@@ -8,6 +8,7 @@ use table::LAYOUT;
 
 pub mod dither;
 mod key;
+pub mod shuffle;
 mod table;
 
 // The bit that each block carries.
