@@ -11,6 +11,13 @@ mod key;
 pub mod shuffle;
 mod table;
 
+// The block in which each place stands.
+pub fn layout() -> [u16; 1024]
+    ensures { λ r. ⌜ r ≡ layout ⌝ }
+{
+    LAYOUT
+}
+
 // The bit that each block carries.
 pub fn block_bits(coded: &[u8; 748]) -> [u8; 1024]
     ensures { λ r. ⌜ r ≡ blockBits 748 (now (coded .entry)) ⌝ }

@@ -63,6 +63,8 @@ ours! {
     vk_gather(&[f32; 1024], &mut [f32; 748]);
     // The numbers of four picture blocks.
     vk_dither(u32, &mut [f32; 16]);
+    // Key, len, count, and the places lent for entries; their number.
+    vk_shuffle(&[u8; 32], usize, usize, *mut u16, usize) -> usize;
 
     vk_forward(&mut [f32; 64]);
     vk_inverse(&mut [f32; 64]);

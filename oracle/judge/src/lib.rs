@@ -8,6 +8,7 @@ pub mod random;
 pub mod records;
 pub mod refusal;
 pub mod resilient;
+pub mod shuffles;
 pub mod soft;
 pub mod texts;
 

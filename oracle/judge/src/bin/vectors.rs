@@ -7,7 +7,7 @@ use std::path::Path;
 
 use judge::random::Random;
 use judge::soft::{damaged, sure, votes};
-use judge::{crc32, edges, hex, records, stages, texts};
+use judge::{crc32, edges, hex, records, shuffles, stages, texts};
 
 /// A replay program reads a list whole into a buffer of this size.
 const LARGEST: usize = 256 * 1_024;
@@ -207,6 +207,38 @@ fn convolution_lists() -> Vec<List> {
     ]
 }
 
+/// The sixteen numbers of each group of four blocks.
+fn dithers() -> Vec<String> {
+    let groups = stages::dither();
+    let line = |(group, numbers): (usize, &[f32])| format!("{group:08x} {}", floats(numbers));
+    groups.chunks_exact(16).enumerate().map(line).collect()
+}
+
+fn layout_lists() -> Vec<List> {
+    let list = |name, about, lines| List { program: "replay_layout", name, about, lines };
+    vec![
+        list(
+            "layout",
+            "the layout's key and its 1,024 blocks, two bytes each.",
+            shuffles::layout(),
+        ),
+        list("dither", "a group of four blocks and its sixteen numbers, f32.", dithers()),
+        list(
+            "shuffle",
+            "a key, len and count of eight bytes, and room of two; then the number of entries and every\n\
+             place of the room, two bytes each. The count is cut to the room, and a len above 4096 gives\n\
+             no entries.",
+            shuffles::cases(),
+        ),
+        list(
+            "accepted",
+            "a number drawn and a range, eight bytes each, and 1 where the number lies below the largest\n\
+             multiple of the range that is at most 2^64, else 0.",
+            shuffles::accepted(),
+        ),
+    ]
+}
+
 fn utf8_lists() -> Vec<List> {
     let list = |name, about, lines| List { program: "replay_utf8", name, about, lines };
     vec![
@@ -357,6 +389,7 @@ fn main() -> std::io::Result<()> {
     lists.extend(crc32_lists());
     lists.extend(utf8_lists());
     lists.extend(record_lists());
+    lists.extend(layout_lists());
     lists.extend(convolution_lists());
     lists.extend(block_lists());
     for list in lists {

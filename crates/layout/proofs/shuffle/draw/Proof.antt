@@ -73,7 +73,7 @@ returns-2 c =
     let start = c .before .before .before .before .before .before .before .before .before .before .before .before .args in
     let g = granted (c .before .before .before .before .before) in
     let v = drawn-value (c .before .before) in
-    let t : ltb (valueAt (streamOf (now (start .key))) (l .at)) (limit (start .range)) ≡ true = rw v at (sym (c .before .accepted .ensures) ∙ c .if1 .taken) in
+    let t : ltb (valueAt (streamOf (now (start .key))) (l .at)) (limit (start .range)) ≡ true = sym (ap (λ (n : ℕ). ltb n (limit (start .range))) v) ∙ (sym (c .before .accepted .ensures) ∙ c .if1 .taken) in
     rw (v, g .1) (sym (draws-found (streamOf (now (start .key))) (start .range) (l .at) (g .0) t) ∙ l .inv)
 
 loop-less : tie.Need-loop-less Inv-loop μ-loop
@@ -84,7 +84,8 @@ loop-again c =
     let l = c .before .before .before .before .before .before .before .before .before .before .before .loop in
     let start = c .before .before .before .before .before .before .before .before .before .before .before .before .args in
     let g = granted (c .before .before .before .before .before) in
-    let t : ltb (valueAt (streamOf (now (start .key))) (l .at)) (limit (start .range)) ≡ false = rw (drawn-value (c .before .before)) at (sym (c .before .accepted .ensures) ∙ c .if1 .left) in
+    let v = drawn-value (c .before .before) in
+    let t : ltb (valueAt (streamOf (now (start .key))) (l .at)) (limit (start .range)) ≡ false = sym (ap (λ (n : ℕ). ltb n (limit (start .range))) v) ∙ (sym (c .before .accepted .ensures) ∙ c .if1 .left) in
     rw (g .1) (sym (draws-again (streamOf (now (start .key))) (start .range) (l .at) (g .0) t) ∙ l .inv)
 
 pub draw-spec : {M : Type 1} → statement M

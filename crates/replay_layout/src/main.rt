@@ -1,0 +1,168 @@
+// Replays the Rust's stored answers for crate `layout`: the layout, which our shuffle makes again, the dither, shuffles of
+// many keys and lengths, and the draw on chosen values, since no key at hand brings about a number that is drawn again.
+// A case is two strings of bytes, the operand and the result, in which a number has its high byte first.
+use lists::Field;
+ghost use Prim.Native.Nat.{_+_, _*_, _^_, _≤_, _<_};
+ghost use mathlib.Core.Path.{_≡_};
+ghost use lib.ListN.{length};
+ghost use Rattle.lists.specs.Fields.{Within};
+
+enum Stage {
+    Layout,
+    Dither,
+    Shuffle,
+    Accepted,
+}
+
+fn wide(byte: u8) -> u64
+    ensures { λ r. ⌜ r < 256 ⌝ }
+{
+    byte as u64
+}
+
+fn pair(high: u8, low: u8) -> u64
+    ensures { λ r. ⌜ r < 65536 ⌝ }
+{
+    wide(high) * 256 + wide(low)
+}
+
+fn word(raw: &[u8], at: usize) -> u64
+    requires { ⌜ at + 4 ≤ length (now raw) ⌝ }
+    ensures { λ r. ⌜ r < 2 ^ 32 ⌝ }
+{
+    pair(raw[at], raw[at + 1]) * 65536 + pair(raw[at + 2], raw[at + 3])
+}
+
+fn number(raw: &[u8], at: usize) -> u64
+    requires { ⌜ at + 8 ≤ length (now raw) ⌝ }
+{
+    word(raw, at) * 0x1_0000_0000 + word(raw, at + 4)
+}
+
+fn widest(entry: u16) -> u64 {
+    entry as u64
+}
+
+// Whether the entries stand in the bytes from place `at` on.
+fn same_entries(entries: &[u16], raw: &[u8; 8202], at: usize) -> bool
+    requires { ⌜ at + 2 * length (now entries) ≤ 8202 ⌝ }
+{
+    for i in 0..entries.len() {
+        let place = at + 2 * i;
+        if widest(entries[i]) != pair(raw[place], raw[place + 1]) {
+            return false;
+        }
+    }
+    true
+}
+
+fn key_of(raw: &[u8; 50]) -> [u8; 32] {
+    let mut key = [0u8; 32];
+    for i in 0..32usize {
+        key[i] = raw[i];
+    }
+    key
+}
+
+// A key, and the 1,024 blocks: those of the constant that `block_bits` and `gather` go by, and those of the shuffle.
+fn lays(raw: &[u8; 50], expected: &[u8; 8202]) -> bool {
+    let table = layout::layout();
+    let mut made = [0u16; 1024];
+    let found = layout::shuffle::shuffle(&key_of(raw), 1024, 1024, &mut made);
+    found == 1024 && same_entries(&table, expected, 0) && same_entries(&made, expected, 0)
+}
+
+// The number of a group, and its sixteen numbers by their bits. None of them is a zero, so that equal ones have equal bits.
+fn dithers(raw: &[u8; 50], expected: &[u8; 8202]) -> bool {
+    let ours = layout::dither::dither(word(raw, 0) as u32);
+    for k in 0..16usize {
+        if ours[k] != float::f32_from_bits(word(expected, 4 * k) as u32) {
+            return false;
+        }
+    }
+    true
+}
+
+// Room for entries, in which other numbers stand.
+fn room() -> [u16; 4100]
+    ensures { λ r. ⌜ 4100 ≡ length r ⌝ }
+{
+    [43690; 4100]
+}
+
+// Key, len, count and room; the number of entries and every place lent.
+fn shuffles(raw: &[u8; 50], expected: &[u8; 8202], count: usize) -> bool {
+    let lent = pair(raw[48], raw[49]) as usize;
+    if 4100 < lent {
+        return false;
+    }
+    let mut places = room();
+    count == 2 + 2 * lent && shuffled(raw, expected, &mut places[..lent])
+}
+
+fn shuffled(raw: &[u8; 50], expected: &[u8; 8202], places: &mut [u16]) -> bool
+    requires { ⌜ length (now places) ≤ 4100 ⌝ }
+{
+    let key = key_of(raw);
+    let len = number(raw, 32) as usize;
+    let count = number(raw, 40) as usize;
+    let found = layout::shuffle::shuffle(&key, len, count, places);
+    found as u64 == pair(expected[0], expected[1]) && same_entries(places, expected, 2)
+}
+
+// A number drawn and the range, and 1 where it is taken.
+fn accepts(raw: &[u8; 50], expected: &[u8; 8202]) -> bool {
+    layout::shuffle::accepted(number(raw, 0), number(raw, 8)) == (expected[0] == 1)
+}
+
+fn agrees(text: &[u8], stage: Stage, operand: Field, result: Field) -> bool
+    requires { ⌜ Within (now text) operand × Within (now text) result ⌝ }
+{
+    let mut raw = [0u8; 50];
+    let mut expected = [0u8; 8202];
+    let one = lists::hex_bytes(text, operand, &mut raw);
+    let other = lists::hex_bytes(text, result, &mut expected);
+    if !(one.good && other.good) {
+        return false;
+    }
+    let from = one.count;
+    let to = other.count;
+    match stage {
+        Stage::Layout => from == 32 && to == 2048 && lays(&raw, &expected),
+        Stage::Dither => from == 4 && to == 64 && dithers(&raw, &expected),
+        Stage::Shuffle => from == 50 && shuffles(&raw, &expected, to),
+        Stage::Accepted => from == 16 && to == 1 && accepts(&raw, &expected),
+    }
+}
+
+fn replay(text: &[u8], name: &[u8], stage: Stage) {
+    let mut compared: u64 = 0;
+    let mut different: u64 = 0;
+    let mut at = 0;
+    while at < text.len() {
+        let operand = lists::next(text, at);
+        let result = lists::next(text, operand.end);
+        at = result.end;
+        if operand.start < operand.end {
+            compared += 1;
+            if !agrees(text, stage, operand, result) {
+                different += 1;
+            }
+        }
+    }
+    lists::report(name, compared, different);
+}
+
+// The list in the file `name`.
+fn list(name: &[u8], stage: Stage) {
+    let mut text = lists::room();
+    let count = lists::load(name, &mut text);
+    replay(&text[..count], name, stage);
+}
+
+fn main() {
+    list(b"layout.txt", Stage::Layout);
+    list(b"dither.txt", Stage::Dither);
+    list(b"shuffle.txt", Stage::Shuffle);
+    list(b"accepted.txt", Stage::Accepted);
+}
