@@ -41,6 +41,7 @@ drawsFrom p = leftAt p / 8
 unfoldable pub exchanged : ℕ → ℕ → List ℕ → List ℕ
 exchanged i j l = set (set l i (getD l j 0)) j (getD l i 0)
 
+-- what follows a draw, where the stream ended and where a number was found
 abbrev pub onward : {A : Type 0} → Drawn → A → (ℕ → ℕ → A) → A
 onward (Found r p) ended found = found r p
 onward End ended found = ended

@@ -14,7 +14,7 @@ ghost use Rattle.layout.specs.Shuffle.{valueAt, limit, drawn, drawsFrom,
 const LONGEST: usize = 4096;
 
 // What drawing finds: a number below the range and the position after the bytes drawn, or that the keystream ends.
-pub enum Drawn {
+enum Drawn {
     Found(u64, Position),
     End,
 }
