@@ -74,9 +74,6 @@ module _ (i j : ℕ) where
     unfolding exchanged Cases
     getD-exchanged k = go (cases k)
       where
-        first : List ℕ
-        first = set l i (getD l j 0)
-
         go : Cases k → getD (set (set l i (getD l j 0)) j (getD l i 0)) k 0 ≡ getD l (before k) 0
         go (inl x) = rw (x .1, x .0) (getD-set-same (set l i (getD l j 0)) j (getD l i 0) 0 (simp length-set hj))
         go (inr (inl x)) = getD-set-other (set l i (getD l j 0)) j k (getD l i 0) 0 (x .0) ∙ rw (x .2, x .1) (getD-set-same l i (getD l j 0) 0 hi)
