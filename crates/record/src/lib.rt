@@ -5,9 +5,11 @@ mod crc;
 
 use refusal::Refusal;
 ghost use mathlib.Core.Path.{_≡_};
+ghost use mathlib.Core.Bool.{not, _&&_};
 ghost use mathlib.Core.List.{_++_};
 ghost use Prim.Native.Nat.{_≤_};
-ghost use lib.ListN.{length, replicate};
+ghost use lib.Dec.{eqb, leb};
+ghost use lib.ListN.{length, getD, replicate};
 ghost use Rattle.chacha20.specs.Rfc8439.{encrypted};
 ghost use Rattle.chacha20.specs.Apply.{leftAt};
 ghost use Rattle.record.specs.Record.{Outcome, short, size, covered, locked, headOf, laid, recordOf, builtOf, zeros, sound, insideOf, parsedOf};
@@ -139,12 +141,18 @@ fn not_built(r: Refusal) -> Built
     }
 }
 
+fn fits(text: &[u8]) -> bool
+    ensures { λ r. ⌜ r ≡ leb (length (now (text .entry))) (short .room) ⌝ }
+{
+    text.len() <= ROOM
+}
+
 // The record of a text, plain or under the lock's key. Refused: a text over 32 bytes, and one that does
 // not pass the check on writing.
 pub fn build_record(text: &[u8], lock: Lock) -> Built
     ensures { λ r. ⌜ r ≡ builtAs (builtOf short (now (text .entry)) lock) ⌝ }
 {
-    if ROOM < text.len() {
+    if !fits(text) {
         return not_built(Refusal::TextTooLong(text.len()));
     }
     if !utf8::counted(text) {
@@ -215,26 +223,41 @@ fn inside(bytes: &[u8], wrong: Refusal) -> Reading
     }
 }
 
+// A key is given for a plain record.
+fn needless(bytes: &[u8; SIZE], given: bool) -> bool
+    ensures { λ r. ⌜ r ≡ (eqb (getD (now (bytes .entry)) 0 0) (short .plain) && given) ⌝ }
+{
+    (bytes[0] == PLAIN) & given
+}
+
+// None is given for a keyed one.
+fn missing(bytes: &[u8; SIZE], given: bool) -> bool
+    ensures { λ r. ⌜ r ≡ (eqb (getD (now (bytes .entry)) 0 0) (short .keyed) && not given) ⌝ }
+{
+    (bytes[0] == KEYED) & !given
+}
+
 // The text that a record holds, read with a key or with none. The salt of a plain record counts for the
 // CRCs only.
 pub fn parse_record(bytes: &[u8; SIZE], key: Key) -> Reading
     ensures { λ r. ⌜ r ≡ readAs (parsedOf short (now (bytes .entry)) key) ⌝ }
 {
+    let mode = bytes[0];
+    let given = key.given;
     if !crc::intact(bytes, OUTER) {
         return not_read(Refusal::NoWatermark);
     }
-    let mode = bytes[0];
-    if mode == PLAIN {
-        if key.given {
-            return not_read(Refusal::NotEncrypted);
-        }
-        return inside(bytes, Refusal::Damaged);
-    }
-    if mode != KEYED {
+    if !((mode == PLAIN) | (mode == KEYED)) {
         return not_read(Refusal::UnsupportedVersion(mode));
     }
-    if !key.given {
+    if needless(bytes, given) {
+        return not_read(Refusal::NotEncrypted);
+    }
+    if missing(bytes, given) {
         return not_read(Refusal::PasswordRequired(crc::number_at(bytes, SALT)));
+    }
+    if mode == PLAIN {
+        return inside(bytes, Refusal::Damaged);
     }
     let mut opened = *bytes;
     let k = key.bytes;

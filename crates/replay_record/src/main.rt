@@ -1,5 +1,5 @@
 // Replays the Rust's stored answers for crate `record`: data/build.txt has records built and texts refused, data/parse.txt
-// records read, damaged and refused. A case is six fields in both.
+// records read, damaged and refused. A case is six fields in both. Then texts too long for a list are built.
 use lists::Field;
 use record::Answer;
 use record::Key;
@@ -48,45 +48,52 @@ fn told(text: &[u8], answer: Answer, number: Field, given: Field) -> bool
     }
 }
 
-fn key_of(text: &[u8], key: Field) -> Key
+// What a field gave as a key: whether it is one or none, and which.
+struct Stored {
+    good: bool,
+    given: bool,
+    bytes: [u8; 32],
+}
+
+fn key_of(text: &[u8], key: Field) -> Stored
     requires { ⌜ Within (now text) key ⌝ }
 {
     let mut bytes = [0u8; 32];
     let decoded = lists::hex_bytes(text, key, &mut bytes);
-    Key {
+    Stored {
+        good: decoded.good & ((decoded.count == 0) | (decoded.count == 32)),
         given: 0 < decoded.count,
         bytes,
     }
 }
 
-fn lock_of(text: &[u8], key: Field, salt: Field) -> Lock
-    requires { ⌜ Within (now text) key × Within (now text) salt ⌝ }
-{
-    let mut bytes = [0u8; 4];
-    lists::hex_bytes(text, salt, &mut bytes);
-    let k = key_of(text, key);
-    let secret = k.bytes;
-    Lock {
-        given: k.given,
-        key: secret,
-        salt: bytes,
-    }
-}
-
-// Text, key, salt; the refusal, the number given, the record.
+// Text, key, salt; the refusal, the number given, the record. A salt goes with a key.
 fn built(text: &[u8], case: Case) -> bool
     requires { ⌜ Whole (now text) case ⌝ }
 {
     let Case { a, b, c, d, e, f } = case;
-    let mut bytes = [0u8; 256];
+    let mut bytes = [0u8; 512];
     let said = lists::hex_bytes(text, a, &mut bytes);
     let count = said.count;
-    let ours = record::build_record(&bytes[..count], lock_of(text, b, c));
-    let mut stored = [0u8; 46];
-    let decoded = lists::hex_bytes(text, f, &mut stored);
+    let stored = key_of(text, b);
+    let key = stored.bytes;
+    let given = stored.given;
+    let mut salt = [0u8; 4];
+    let salted = lists::hex_bytes(text, c, &mut salt);
+    let ours = record::build_record(&bytes[..count], Lock { given, key, salt });
     let answer = ours.answer;
     let made = ours.bytes;
-    told(text, answer, d, e) && said.good && decoded.good && check::same(&made, &stored)
+    let right = told(text, answer, d, e);
+    let mut wanted = [0u8; 46];
+    let decoded = lists::hex_bytes(text, f, &mut wanted);
+    right
+        && said.good
+        && stored.good
+        && salted.good
+        && salted.count == if given { 4 } else { 0 }
+        && decoded.good
+        && decoded.count == 46
+        && check::same(&made, &wanted)
 }
 
 // Record, key; the refusal, the number given, the length, the text with zeros after it.
@@ -96,18 +103,25 @@ fn parsed(text: &[u8], case: Case) -> bool
     let Case { a, b, c, d, e, f } = case;
     let mut bytes = [0u8; 46];
     let decoded = lists::hex_bytes(text, a, &mut bytes);
-    let ours = record::parse_record(&bytes, key_of(text, b));
-    let mut stored = [0u8; 32];
-    let wanted = lists::hex_bytes(text, f, &mut stored);
+    let stored = key_of(text, b);
+    let key = stored.bytes;
+    let given = stored.given;
+    let ours = record::parse_record(&bytes, Key { given, bytes: key });
     let answer = ours.answer;
     let read = ours.text;
+    let right = told(text, answer, c, d);
     let length = lists::hex_number(text, e);
-    told(text, answer, c, d)
+    let mut wanted = [0u8; 32];
+    let said = lists::hex_bytes(text, f, &mut wanted);
+    right
         && decoded.good
-        && wanted.good
+        && decoded.count == 46
+        && stored.good
+        && said.good
+        && said.count == 32
         && length.good
         && ours.length as u64 == length.value
-        && check::same(&read, &stored)
+        && check::same(&read, &wanted)
 }
 
 fn agrees(text: &[u8], case: Case, reading: bool) -> bool
@@ -144,7 +158,38 @@ fn list(path: &[u8], name: &[u8], reading: bool) {
     replay(&text[..count], name, reading);
 }
 
+// 0 where the text is refused as too long, with its own length and not a byte of a record, else 1.
+fn taken(text: &[u8]) -> u64
+    ensures { λ r. ⌜ r ≤ 1 ⌝ }
+{
+    let lock = Lock {
+        given: false,
+        key: [0; 32],
+        salt: [0; 4],
+    };
+    let ours = record::build_record(text, lock);
+    let made = ours.bytes;
+    let answer = ours.answer;
+    let Answer::Refused(r) = answer else {
+        return 1;
+    };
+    let right = refusal::number(r) == 1 && refusal::given(r) == text.len() as u64;
+    if right && check::same(&made, &[0; 46]) {
+        0
+    } else {
+        1
+    }
+}
+
+// Lengths that a byte or two would hold as 255, 0, 32 and 0.
+fn long_texts() {
+    let text = [b'a'; 65536];
+    let short = taken(&text[..255]) + taken(&text[..256]) + taken(&text[..288]);
+    lists::report(b"long", 4, short + taken(&text));
+}
+
 fn main() {
     list(b"build.txt", b"build", false);
     list(b"parse.txt", b"parse", true);
+    long_texts();
 }

@@ -45,6 +45,7 @@ pub fn built() -> Vec<String> {
     texts.push("Kärdla \u{20ac} \u{1f6f0}".into());
     texts.extend(BAD.map(<[u8]>::to_vec));
     texts.extend([vec![0; 32], vec![0x41; 255], vec![0xff; 33], vec![0xff; 255]]);
+    texts.extend([256, 288].map(|length| vec![0x41; length]));
     let both = |text: &Vec<u8>| [built_line(text, None), built_line(text, Some(lock()))];
     texts.iter().flat_map(both).collect()
 }
