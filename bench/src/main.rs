@@ -14,7 +14,7 @@ unsafe extern "C" {
     fn vk_chacha20_apply(
         key: &[u8; 32],
         nonce: &[u8; 12],
-        from: u64,
+        position: &mut u64,
         bytes: *mut u8,
         len: usize,
     ) -> u8;
@@ -24,14 +24,26 @@ unsafe extern "C" {
 }
 
 /// Runs the two in turn and prints the medians in milliseconds and their ratio.
-fn row(name: &str, runs: usize, mut ours: impl FnMut(), mut rust: impl FnMut()) {
+fn row(name: &str, runs: usize, ours: impl FnMut(), rust: impl FnMut()) {
+    let (our, rust) = medians(runs, ours, rust);
+    println!("{name:<40} {our:>10.3} {rust:>10.3} {:>8.2}", our / rust);
+}
+
+/// The same for so many bytes, with the megabytes of each in a second.
+fn row_of_bytes(name: &str, bytes: usize, runs: usize, ours: impl FnMut(), rust: impl FnMut()) {
+    let (our, rust) = medians(runs, ours, rust);
+    let speed = |ms: f64| bytes as f64 / ms / 1e3;
+    print!("{name:<40} {our:>10.3} {rust:>10.3} {:>8.2}", our / rust);
+    println!(" {:>10.0} {:>10.0}", speed(our), speed(rust));
+}
+
+fn medians(runs: usize, mut ours: impl FnMut(), mut rust: impl FnMut()) -> (f64, f64) {
     let (mut our_times, mut rust_times) = (Vec::new(), Vec::new());
     for _ in 0..runs {
         our_times.push(timed(&mut ours));
         rust_times.push(timed(&mut rust));
     }
-    let (our, rust) = (median(our_times), median(rust_times));
-    println!("{name:<40} {our:>10.3} {rust:>10.3} {:>8.2}", our / rust);
+    (median(our_times), median(rust_times))
 }
 
 fn timed(run: &mut impl FnMut()) -> f64 {
@@ -72,8 +84,9 @@ fn round_to_u8(runs: usize) {
 fn checksums(runs: usize, length: usize, count: usize) {
     let messages = Random::new(2).bytes(length + count);
     let (mut ours, mut rust) = (0, 0);
-    row(
+    row_of_bytes(
         &format!("crc32, {count} x {length} bytes"),
+        length * count,
         runs,
         || {
             let sums = messages.windows(length).take(count);
@@ -91,12 +104,13 @@ fn keystreams(runs: usize, length: usize, count: usize) {
         (0..count).map(|_| (random.array(), random.array())).collect();
     let mut ours = random.bytes(length * count);
     let mut rust = ours.clone();
-    row(
+    row_of_bytes(
         &format!("chacha20, {count} x {length} bytes"),
+        length * count,
         runs,
         || {
             for ((key, nonce), part) in keys.iter().zip(ours.chunks_exact_mut(length)) {
-                unsafe { vk_chacha20_apply(key, nonce, 0, part.as_mut_ptr(), length) };
+                unsafe { vk_chacha20_apply(key, nonce, &mut 0, part.as_mut_ptr(), length) };
             }
         },
         || {
@@ -172,7 +186,8 @@ fn transforms(runs: usize) {
 
 fn main() {
     let runs = std::env::args().nth(1).map_or(15, |runs| runs.parse().expect("a number of runs"));
-    println!("{:<40} {:>10} {:>10} {:>8}", "stage", "ours ms", "Rust ms", "ratio");
+    print!("{:<40} {:>10} {:>10} {:>8}", "stage", "ours ms", "Rust ms", "ratio");
+    println!(" {:>10} {:>10}", "ours MB/s", "Rust MB/s");
     round_to_u8(runs);
     checksums(runs, 1 << 24, 1);
     checksums(runs, 46, 10_000);

@@ -29,7 +29,7 @@ fn roll_left(x: u32, n: u32) -> u32
 }
 
 // 2.1: the quarter round.
-fn quarter(a: u32, b: u32, c: u32, d: u32) -> [u32; 4]
+pub fn quarter(a: u32, b: u32, c: u32, d: u32) -> [u32; 4]
     ensures { λ r. ⌜ r ≡ quarter a b c d ⌝ }
 {
     let a = std::num::wrapping_add_u32(a, b);
@@ -44,7 +44,7 @@ fn quarter(a: u32, b: u32, c: u32, d: u32) -> [u32; 4]
 }
 
 // 2.2: the quarter round on four words of the state.
-fn quarter_round(s: &mut [u32; 16], x: usize, y: usize, z: usize, w: usize)
+pub fn quarter_round(s: &mut [u32; 16], x: usize, y: usize, z: usize, w: usize)
     requires { ⌜ (x < 16) × (y < 16) × (z < 16) × (w < 16) ⌝ }
     ensures { λ _. ⌜ now (s .exit) ≡ quarterRound x y z w (now (s .entry)) ⌝ }
 {

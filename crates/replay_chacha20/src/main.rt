@@ -1,6 +1,5 @@
 // Runs the vectors of RFC 8439 and the end of the keystream through `chacha20`, and says of each
-// whether the answer and the bytes are the ones expected. The worked examples of 2.1.1 and 2.2.1 are
-// theorems, in chacha20/specs/Examples.antt.
+// whether the answer and the bytes are the ones expected.
 use chacha20::Applied;
 use libc::STDOUT_FILENO;
 ghost use Prim.Native.Nat.{_<_};
@@ -8,6 +7,7 @@ ghost use Prim.Native.Nat.{_<_};
 mod vectors;
 
 fn main() {
+    vectors::quarter_rounds();
     vectors::blocks();
     vectors::messages();
     last_block();
@@ -66,6 +66,22 @@ fn shows(text: &[u8], bytes: &[u8]) -> bool {
         }
     }
     text.len() / 2 == bytes.len()
+}
+
+fn same_words(a: &[u32], b: &[u32]) -> bool {
+    if a.len() != b.len() {
+        return false;
+    }
+    for i in 0..a.len() {
+        if a[i] != b[i] {
+            return false;
+        }
+    }
+    true
+}
+
+fn same_state(a: &[u32; 16], b: &[u32; 16]) -> bool {
+    same_words(a, b)
 }
 
 fn is_next(a: Applied, position: u64) -> bool {

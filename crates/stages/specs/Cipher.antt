@@ -1,8 +1,12 @@
--- The answer to a request for keystream as one number: 0, or document 01's number of the refusal. Assumes nothing.
+-- The answer to a request for keystream as two numbers: 0, or document 01's number of the refusal; and the position after it. Assumes nothing.
 use Prim.Native.Nat.{ℕ}
 use Rattle.chacha20.specs.declared.Applied.{Applied}
 use Rattle.chacha20.specs.declared.Applied.the-variants.{Next, KeystreamEnd}
 
-unfoldable pub codeOf : Applied → ℕ
+abbrev pub codeOf : Applied → ℕ
 codeOf (Next _) = 0
 codeOf KeystreamEnd = 14
+
+abbrev pub nextOf : ℕ → Applied → ℕ
+nextOf _ (Next p) = p
+nextOf p KeystreamEnd = p

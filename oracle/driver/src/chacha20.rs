@@ -64,14 +64,15 @@ fn compare_parts(tally: &mut Tally, random: &mut Random, scale: u64) {
         let mut lent = Lent::new(random, length);
         let mut expected = lent.original();
         let theirs = match cipher::apply(&key, &nonce, position, &mut expected) {
-            Ok(()) => 0,
-            Err(refused) => refused.number,
+            Ok(next) => (0, next),
+            Err(refused) => (refused.number, position),
         };
-        let bytes = lent.lend();
-        let mine = unsafe { ours(&key, &nonce, position, bytes.as_mut_ptr(), bytes.len()) };
+        let (bytes, mut next) = (lent.lend(), position);
+        let number = unsafe { ours(&key, &nonce, &mut next, bytes.as_mut_ptr(), bytes.len()) };
+        let mine = (number, next);
         tally.count(mine == theirs && lent.is(&expected), || {
             let (key, nonce) = (hex::of_bytes(&key), hex::of_bytes(&nonce));
-            let answers = format!("ours {mine}, Rust {theirs}");
+            let answers = format!("ours {mine:?}, Rust {theirs:?}");
             format!("vk_chacha20_apply key {key} nonce {nonce} from {position}, {length} bytes: {answers}")
         });
     }

@@ -48,8 +48,8 @@ ours! {
     vk_crc32(*const u8, usize) -> u32;
 
     vk_chacha20_block(&[u8; 32], u32, &[u8; 12], &mut [u8; 64]);
-    // Key, nonce, position in the stream, and the bytes; 0, or 14 where the stream ends before the last.
-    vk_chacha20_apply(&[u8; 32], &[u8; 12], u64, *mut u8, usize) -> u8;
+    // Key, nonce, position in the stream and then the next one, and the bytes; 0, or 14 where the stream ends before the last.
+    vk_chacha20_apply(&[u8; 32], &[u8; 12], &mut u64, *mut u8, usize) -> u8;
 
     vk_utf8_well_formed(*const u8, usize) -> bool;
     vk_utf8_counted(*const u8, usize) -> bool;

@@ -26,6 +26,11 @@ impl ChaCha20 {
     pub fn seek(&mut self, position: u64) {
         self.position = position;
     }
+
+    /// The position of the next byte.
+    pub fn position(&self) -> u64 {
+        self.position
+    }
 }
 
 impl KeyIvInit for ChaCha20 {
