@@ -14,7 +14,7 @@ use Rattle.block.specs.Grid.{grid, grid-same, cell, lineOf}
 use Rattle.block.specs.Columns.{columns-all}
 
 -- the place of line r of block b
-unfoldable pub lineAt : ℕ → ℕ → ℕ
+abbrev pub lineAt : ℕ → ℕ → ℕ
 lineAt b r = (b / 32 * 8 + r) * 256 + b % 32 * 8
 
 unfoldable pub loadOf : List Float → ℕ → List Float
@@ -24,7 +24,6 @@ unfoldable pub storedOf : List Float → ℕ → List Float → List Float
 storedOf d b x = pasted 8 (lineAt b) (lineOf (cell x)) 8 d
 
 pub line-fits : (b r : ℕ) → b < 1024 → r < 8 → lineAt b r + 8 ≤ 65536
-unfolding lineAt
 line-fits b r h k = omega arith
 
 wide : (x : List Float) (r : ℕ) → length (lineOf (cell x) r) ≡ 8
@@ -33,7 +32,6 @@ wide x r = length-tab (cell x r) 8
 -- ---- the places of one block, and of two, are apart
 
 lines-rise : (b r s : ℕ) → r < s → lineAt b r + 8 ≤ lineAt b s
-unfolding lineAt
 lines-rise b r s h = omega arith
 
 -- a place lies in one block
@@ -41,7 +39,6 @@ apart : (y x r c v w s k : ℕ) → x < 32 → w < 32 → r < 8 → s < 8 → c 
 apart y x r c v w s k X W R S C K h = (omega arith, omega arith)
 
 place-once : (b e r s c k : ℕ) → r < 8 → s < 8 → c < 8 → k < 8 → lineAt b r + c ≡ lineAt e s + k → b ≡ e
-unfolding lineAt
 place-once b e r s c k R S C K h =
     let p = apart (b / 32) (b % 32) r c (e / 32) (e % 32) s k (omega arith) (omega arith) R S C K h in
     let l = p .0 in

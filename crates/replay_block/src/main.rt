@@ -95,6 +95,22 @@ fn answer(stage: Stage, raw: &[u8], matrix: &[f32; 64], turned: &[f32; 64]) -> [
     }
 }
 
+// How many bytes a stage's stored operand has: a block, or a block, four numbers and a bit.
+fn operand_size(stage: Stage) -> usize {
+    match stage {
+        Stage::Forward | Stage::Inverse => 256,
+        Stage::Mark | Stage::Vote => 273,
+    }
+}
+
+// And its stored result: a block, or a vote.
+fn result_size(stage: Stage) -> usize {
+    match stage {
+        Stage::Vote => 4,
+        _ => 256,
+    }
+}
+
 fn agrees(text: &[u8], stage: Stage, operand: Field, result: Field) -> bool
     requires { ⌜ Within (now text) operand × Within (now text) result ⌝ }
 {
@@ -104,7 +120,11 @@ fn agrees(text: &[u8], stage: Stage, operand: Field, result: Field) -> bool
     let mut expected = [0u8; 256];
     let one = lists::hex_bytes(text, operand, &mut raw);
     let other = lists::hex_bytes(text, result, &mut expected);
-    one.good && other.good && same(&answer(stage, &raw, &matrix, &turned), &expected)
+    one.good
+        && one.count == operand_size(stage)
+        && other.good
+        && other.count == result_size(stage)
+        && same(&answer(stage, &raw, &matrix, &turned), &expected)
 }
 
 fn replay(text: &[u8], name: &[u8], stage: Stage) {
