@@ -11,7 +11,8 @@ use lib.IntN.{ℤ, pos, negℤ, natAbs, _+ℤ_, +ℤ-idl, +ℤ-idr}
 use lib.Ieee.{Float, nan, binary32, low, prec}
 use Rattle.float.specs.Exact.{Is}
 use Rattle.seq.specs.Tab.{tab, tab-same, getD-tab, length-tab}
-use Rattle.convolution.specs.Carried.{Votes, votes-length}
+use Rattle.convolution.specs.Damage.{Votes, Fate, kept, votedF, zeros, turns}
+use Rattle.convolution.specs.Carried.{votes-length}
 use Rattle.seq.specs.Sum.{sum-same}
 use Rattle.convolution.specs.Rearrange.{sum, rearrange}
 use Rattle.convolution.specs.Decoder.{voted}
@@ -22,7 +23,7 @@ use Rattle.layout.specs.Places.{through}
 use Rattle.convolution.specs.Gathered.{placed, votes-at}
 use Rattle.convolution.specs.Distance.{Potential}
 use Rattle.convolution.specs.Puncture.{sent}
-use Rattle.convolution.specs.Corrects.{Fate, kept, votedF, laid, zeros, turns, upto, cost, total, interleave, votes-snoc, lt-or-ge}
+use Rattle.convolution.specs.Corrects.{laid, upto, cost, total, interleave, votes-snoc, lt-or-ge}
 use Rattle.convolution.specs.General.{Top, sends, readBy, strengthBy, scoreBy, corrects-by, top-by}
 
 mixed : (a b c d : ℕ) → a + b + (c + d) ≡ a + c + (b + d)

@@ -17,11 +17,7 @@ use Rattle.convolution.specs.Ccsds131.{out1, out2, code, run, Bits}
 use Rattle.convolution.specs.Order.{size-add, size-neg}
 use Rattle.convolution.specs.Decoder.{floats, wholes, pick, voted, cand, evenAt, oddAt, bestAt, step, after, origin, path, starting, decoded, strength}
 use Rattle.convolution.specs.Best.{score, best}
-
--- the floats xs denote the whole numbers zs of 1 / c
-pub data Votes (c : ℕ) : List Float → List ℤ → Type 0 where
-  none : Votes c [] []
-  one : {x : Float} {z : ℤ} {xs : List Float} {zs : List ℤ} → Is c x z → Votes c xs zs → Votes c (x ∷ xs) (z ∷ zs)
+use Rattle.convolution.specs.Damage.{Votes, none, one}
 
 pub votes-length : {c : ℕ} {xs : List Float} {zs : List ℤ} → Votes c xs zs → length xs ≡ length zs
 votes-length none = refl

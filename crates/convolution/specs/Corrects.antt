@@ -20,45 +20,16 @@ use Rattle.convolution.specs.Decoder.{voted, floats, decoded}
 use Rattle.convolution.specs.Ccsds131.{code, run, Bits}
 use Rattle.convolution.specs.RecordBits.{code-length, code-bits, bits-at}
 use Rattle.convolution.specs.Best.{score}
-use Rattle.convolution.specs.Carried.{Votes, none, one, nought, sizes, decoded-best}
+use Rattle.convolution.specs.Damage.{Votes, none, one, unlike, apart, Fate, kept, zeroed, turned, votedF, zeros, turns}
+use Rattle.convolution.specs.Carried.{nought, sizes, decoded-best}
 use Rattle.layout.specs.Places.{gatherF}
 use Rattle.convolution.specs.Gathered.{gatherZ, placed, regroup, gather-sizes, gather-votes}
-use Rattle.convolution.specs.Distance.{apart, unlike, Potential, split}
+use Rattle.convolution.specs.Distance.{Potential, split}
 use Rattle.convolution.specs.Puncture.{sent, fill, fill-length, sent-length, sent-bits, sent-apart, fill-score, fill-sizes, fill-votes}
-
--- what becomes of a place's vote
-pub data Fate : Type 0 where
-  kept : Fate
-  zeroed : Bool → Fate
-  turned : Fate
-
--- a vote of exactly +1 for a 0 and -1 for a 1, after its fate
-abbrev pub sureF : ℕ → Float
-sureF zero = fin false 1 (pos 0)
-sureF (suc c) = fin true 1 (pos 0)
-
-abbrev pub votedF : ℕ → Fate → Float
-votedF c kept = sureF c
-votedF c (zeroed s) = fin s 0 (pos 0)
-votedF zero turned = fin true 1 (pos 0)
-votedF (suc c) turned = fin false 1 (pos 0)
 
 -- the votes of n places, of which place j carries bit j mod p of the word cs
 unfoldable pub laid : ℕ → ℕ → List ℕ → List Fate → List Float
 laid p n cs ts = tab (λ j. votedF (getD cs (j % p) 0) (getD ts j kept)) n
-
--- how many votes are zero, and how many reversed
-unfoldable pub zeros : List Fate → ℕ
-zeros [] = 0
-zeros (kept ∷ ts) = zeros ts
-zeros (zeroed s ∷ ts) = suc (zeros ts)
-zeros (turned ∷ ts) = zeros ts
-
-unfoldable pub turns : List Fate → ℕ
-turns [] = 0
-turns (kept ∷ ts) = turns ts
-turns (zeroed s ∷ ts) = turns ts
-turns (turned ∷ ts) = suc (turns ts)
 
 -- ---- sums over places
 

@@ -3,6 +3,7 @@
 --   metric    the metric with which the decoder ends is then that record's score, exactly
 --   distance  two different records differ in at least 10 coded bits, and in at least 10 blocks
 --   corrects  a record laid over the blocks, e votes made zero and f others reversed, e + 2 f <= 9, is decoded
+-- The words of damage stand in Damage.antt, the code's in Ccsds131.antt, and the decoder's in Decoder.antt.
 -- Ten zeroed votes can be too many: where two records differ in just ten blocks, zeroing those leaves the same votes of both.
 -- The general laws, over any pattern of coded bits sent, length and places, stand in General.antt and Blocks.antt. Assumes nothing.
 use mathlib.Core.Path.{_≡_, sym, ap, ap₂, _∙_, subst}
@@ -25,12 +26,12 @@ use Rattle.layout.specs.Places.{blockBits, gathered, through}
 use Rattle.convolution.specs.Ccsds131.{encodeOf}
 use Rattle.convolution.specs.Decoder.{floats, voted, decoded, strength}
 use Rattle.convolution.specs.RecordBits.{Bytes, recordOf}
-use Rattle.convolution.specs.Carried.{Votes}
-use Rattle.convolution.specs.Distance.{unlike, apart, toHome, ten}
+use Rattle.convolution.specs.Damage.{Votes, unlike, apart, Fate, kept, votedF, zeros, turns}
+use Rattle.convolution.specs.Distance.{toHome, ten}
 use Rattle.convolution.specs.Puncture.{sent, sent-all}
 use Rattle.convolution.specs.General.{sends, sends-all, readBy, strengthBy, read-all, strength-all, encode-length, words-apart}
 use Rattle.convolution.specs.Blocks.{blockScore, upto-blocks, top-blocks, strong-blocks, corrects-blocks}
-use Rattle.convolution.specs.Corrects.{Fate, kept, votedF, zeros, turns, apart-places}
+use Rattle.convolution.specs.Corrects.{apart-places}
 
 -- ---- the words of the demand
 

@@ -12,20 +12,11 @@ use lib.Ieee.Fits.{and-l, and-r}
 use borrow.Author.Tests.{eqb-true, eqb-false}
 use lib.ListN.{length, getD}
 use lib.Bits.{differ, bitXor, xor-lt, xor-self}
-use Rattle.convolution.specs.Decoder.{pick}
+use Rattle.convolution.specs.Damage.{unlike, apart}
 use Rattle.convolution.specs.Ccsds131.{parity, out1, out2, register, next, code, run, Bits, one}
 use Rattle.convolution.specs.Linear.{parity-lt, parity-xor, register-xor, next-xor}
 
--- 1 where two coded bits differ, and how many places do
-abbrev pub unlike : ℕ → ℕ → ℕ
-unlike c d = pick (eqb c d) 0 1
-
-unfoldable pub apart : List ℕ → List ℕ → ℕ
-apart [] ds = 0
-apart (c ∷ cs) [] = 0
-apart (c ∷ cs) (d ∷ ds) = unlike c d + apart cs ds
-
--- the same, where the coded bit i counts k i times, from the bit i on
+-- in how many coded bits two words differ, where the coded bit i counts k i times, from the bit i on
 unfoldable pub counted : (ℕ → ℕ) → ℕ → List ℕ → List ℕ → ℕ
 counted k i [] ds = 0
 counted k i (c ∷ cs) [] = 0

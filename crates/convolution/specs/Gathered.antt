@@ -14,7 +14,8 @@ use Rattle.float.specs.Exact.{Is, is-add}
 use Rattle.convolution.specs.Order.{size-add}
 use Rattle.convolution.specs.Decoder.{voted}
 use Rattle.convolution.specs.Best.{score}
-use Rattle.convolution.specs.Carried.{Votes, none, one, sizes, nought}
+use Rattle.convolution.specs.Damage.{Votes, none, one}
+use Rattle.convolution.specs.Carried.{sizes, nought}
 
 abbrev pub gatherZ : ℕ → ℕ → List ℤ → List ℤ
 gatherZ = gather (pos 0) (pos 0) (λ a b. a +ℤ b)

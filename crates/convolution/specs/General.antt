@@ -17,12 +17,13 @@ use Rattle.convolution.specs.Decoder.{floats, decoded, strength}
 use Rattle.convolution.specs.Ccsds131.{code, bitsOf, sixZeros, encodeOf}
 use Rattle.convolution.specs.RecordBits.{Bytes, recordOf, recordOf-bitsOf, code-length, bitsOf-length, bitsOf-bits, six-bits, record-home, bitsOf-recordOf}
 use Rattle.convolution.specs.Best.{score}
-use Rattle.convolution.specs.Carried.{Votes, votes-length, decoded-best}
+use Rattle.convolution.specs.Damage.{Votes, apart, Fate, kept}
+use Rattle.convolution.specs.Carried.{votes-length, decoded-best}
 use Rattle.layout.specs.Places.{gather-length, gatherF}
 use Rattle.convolution.specs.Gathered.{gatherZ, placed, regroup, gather-sizes, gather-votes}
-use Rattle.convolution.specs.Distance.{Potential, split, apart}
+use Rattle.convolution.specs.Distance.{Potential, split}
 use Rattle.convolution.specs.Puncture.{sent, fill, fill-length, sent-all, fill-all, sent-length, fill-score, fill-sizes, fill-votes, sent-apart}
-use Rattle.convolution.specs.Corrects.{Fate, kept, laid, upto, cost, undone-by}
+use Rattle.convolution.specs.Corrects.{laid, upto, cost, undone-by}
 
 -- the coded bits of r bytes, and how many of them the pattern k sends
 abbrev pub coded : ℕ → ℕ

@@ -5,6 +5,7 @@ pub mod Decoder
 pub mod Packed
 pub mod Trace
 pub mod Best
+pub mod Damage
 pub mod Carried
 pub mod Linear
 pub mod Distance

@@ -11,8 +11,9 @@ use lib.Ieee.{Float, fin}
 use Rattle.convolution.specs.Decoder.{voted}
 use Rattle.convolution.specs.Ccsds131.{Bits, none, one}
 use Rattle.convolution.specs.Best.{score}
-use Rattle.convolution.specs.Carried.{Votes, sizes, nought}
-use Rattle.convolution.specs.Distance.{apart, unlike, counted}
+use Rattle.convolution.specs.Damage.{Votes, unlike, apart}
+use Rattle.convolution.specs.Carried.{sizes, nought}
+use Rattle.convolution.specs.Distance.{counted}
 
 -- the coded bits that are sent, from the coded bit i on: those at which k is not 0
 sentAt : {A : Type 0} → ℕ → A → List A → List A
