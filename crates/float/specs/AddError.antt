@@ -3,17 +3,14 @@
 use mathlib.Core.Path.{_≡_, refl, sym, ap, _∙_, subst}
 use mathlib.Core.Bool.{Bool, true, false, not, _&&_, cond}
 use Prim.Native.Nat.{ℕ, suc, _+_, _-_, _*_, _^_, _≤_, _<_}
-use native.Mathlib.Nat.{le-trans, le-of-eq, mul-one, mul-right-comm, mul-le-mul-right, le-of-mul-le-mul-right}
 use native.Mathlib.Omega.{arith}
 use lib.IntN.{ℤ, pos, negℤ, natAbs, _+ℤ_, _-ℤ_, negℤ-negℤ, negℤ-+ℤ, +ℤ-comm}
 use lib.Dec.{T, ltb, ltb→lt, nltb→le}
 use lib.Pow.{pow-pos}
-use lib.Ieee.{Float, nan, inf, fin, Format, prec, emax, low, up, down, round, sum, add}
-use lib.Ieee.Fits.{down-pos}
+use lib.Ieee.{Float, Format, prec, emax, low, round, sum, add}
 use lib.Ieee.Exact.{HasValue}
 use Rattle.float.specs.Fraction.{add-at}
 use Rattle.float.specs.Exact.{Is, signed, abs-neg, abs-signed, pos-neg}
-use Rattle.float.specs.Bounds.{Within}
 use Rattle.float.specs.Error.{rounded}
 
 -- ---- a sum is one rounding of the exact sum
@@ -83,16 +80,3 @@ add-near f x y z w j J h k l =
       value = record { sign = o .sign; size = r .to; value = subst (λ (v : Float). HasValue v (o .sign) (r .to) U) (sym (o .is)) (r .value); whole = refl };
       off = subst (λ (v : ℤ). dist (signed (o .sign) (r .to)) v * 2 ≤ 2 ^ (j - prec f)) (o .whole) (dist-signed (o .sign) (r .to) (o .size) (2 ^ (j - prec f)) (r .not-more) (r .not-less));
     }
-
--- ---- a bound on the value bounds the number of units
-
-pub size-within : (f : Format) (x : Float) (z : ℤ) (b : ℕ) → Is (2 ^ low f) x z → Within x b 1 → natAbs z ≤ b * 2 ^ low f
-size-within f x z b h k = subst (λ (n : ℕ). n ≤ b * 2 ^ low f) (sym (ap natAbs (sym (h .whole)) ∙ abs-signed (h .sign) (h .size))) (go x (h .value) k)
-  where
-    go : (x : Float) → HasValue x (h .sign) (h .size) (2 ^ low f) → Within x b 1 → h .size ≤ b * 2 ^ low f
-    go nan v l = absurd v
-    go (inf s) v l = absurd v
-    go (fin s m e) v l =
-        le-of-mul-le-mul-right
-        (le-trans (le-of-eq (sym (v .1))) (le-trans (mul-le-mul-right (2 ^ low f) (le-trans (le-of-eq (sym (mul-one (m * up e)))) l)) (le-of-eq (mul-right-comm b (down e) (2 ^ low f)))))
-        (down-pos e)

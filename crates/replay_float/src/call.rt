@@ -1,4 +1,4 @@
-// The calls of crate `float`, over the bits of their operand and their result.
+// The calls of crate `float`, over the bits of their operands and their result.
 pub enum Call {
     RoundF32,
     FloorF32,
@@ -9,6 +9,8 @@ pub enum Call {
     CeilF64ToI64,
     AbsF64,
     NarrowF64,
+    MinF32,
+    MaxF64,
 }
 
 fn f32_of(bits: u64) -> f32 {
@@ -50,8 +52,15 @@ fn i64_of(bits: u64) -> i64 {
 }
 
 impl Call {
+    pub fn takes_two(self) -> bool {
+        match self {
+            Call::MinF32 | Call::MaxF64 => true,
+            _ => false,
+        }
+    }
+
     // Whether the call gives this result.
-    pub fn agrees(self, input: u64, result: u64) -> bool {
+    pub fn agrees(self, input: u64, other: u64, result: u64) -> bool {
         match self {
             Call::RoundF32 => bits_of_f32(float::round_f32(f32_of(input))) == result,
             Call::FloorF32 => bits_of_f32(float::floor_f32(f32_of(input))) == result,
@@ -62,6 +71,8 @@ impl Call {
             Call::CeilF64ToI64 => float::ceil_f64_to_i64(f64_of(input)) == i64_of(result),
             Call::AbsF64 => bits_of_f64(float::abs_f64(f64_of(input))) == result,
             Call::NarrowF64 => bits_of_f32(float::narrow_f64(f64_of(input))) == result,
+            Call::MinF32 => bits_of_f32(float::min_f32(f32_of(input), f32_of(other))) == result,
+            Call::MaxF64 => bits_of_f64(float::max_f64(f64_of(input), f64_of(other))) == result,
         }
     }
 }

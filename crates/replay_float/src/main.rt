@@ -1,17 +1,31 @@
-// Replays the Rust's stored answers for crate `float`: a list for each call, of operands and results by their bits.
+// Replays the Rust's stored answers for crate `float`: a list for each call, of one or two operands and results by their bits.
 // Every NaN is written as one pattern. Prints for each list how many were compared and how many differ.
 mod call;
 
 use call::Call;
 use lists::Field;
+ghost use Prim.Native.Nat.{_≤_};
 ghost use Rattle.lists.specs.Fields.{Within};
 
-fn agrees(text: &[u8], which: Call, operand: Field, result: Field) -> bool
-    requires { ⌜ Within (now text) operand × Within (now text) result ⌝ }
+fn agrees(text: &[u8], which: Call, one: Field, other: Field, result: Field) -> bool
+    requires { ⌜ Within (now text) one × Within (now text) other × Within (now text) result ⌝ }
 {
-    let x = lists::hex_number(text, operand);
-    let y = lists::hex_number(text, result);
-    x.good && y.good && which.agrees(x.value, y.value)
+    let x = lists::hex_number(text, one);
+    let y = lists::hex_number(text, other);
+    let z = lists::hex_number(text, result);
+    x.good && y.good && z.good && which.agrees(x.value, y.value, z.value)
+}
+
+// The other operand, which is the same again where the call takes one.
+fn other_operand(text: &[u8], which: Call, one: Field) -> Field
+    requires { ⌜ Within (now text) one ⌝ }
+    ensures { λ r. ⌜ Within (now (text .entry)) r × (one .end ≤ r .end) ⌝ }
+{
+    if which.takes_two() {
+        lists::next(text, one.end)
+    } else {
+        one
+    }
 }
 
 fn replay(text: &[u8], name: &[u8], which: Call) {
@@ -19,12 +33,13 @@ fn replay(text: &[u8], name: &[u8], which: Call) {
     let mut different: u64 = 0;
     let mut at = 0;
     while at < text.len() {
-        let operand = lists::next(text, at);
-        let result = lists::next(text, operand.end);
+        let one = lists::next(text, at);
+        let other = other_operand(text, which, one);
+        let result = lists::next(text, other.end);
         at = result.end;
-        if operand.start < operand.end {
+        if one.start < one.end {
             compared += 1;
-            if !agrees(text, which, operand, result) {
+            if !agrees(text, which, one, other, result) {
                 different += 1;
             }
         }
@@ -49,4 +64,6 @@ fn main() {
     list(b"ceil_f64_to_i64.txt", Call::CeilF64ToI64);
     list(b"abs_f64.txt", Call::AbsF64);
     list(b"narrow_f64.txt", Call::NarrowF64);
+    list(b"min_f32.txt", Call::MinF32);
+    list(b"max_f64.txt", Call::MaxF64);
 }

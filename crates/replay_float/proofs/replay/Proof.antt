@@ -17,6 +17,9 @@ loop-holds c = search needs
 next-requires : tie.Need-next-requires Inv-loop μ-loop
 next-requires c κs = search needs
 
+other-operand-requires : tie.Need-other-operand-requires Inv-loop μ-loop
+other-operand-requires c κs = search needs
+
 next-requires-2 : tie.Need-next-requires-2 Inv-loop μ-loop
 next-requires-2 c κs = search needs
 
@@ -61,6 +64,7 @@ replay-spec =
     μ-loop
     loop-holds
     next-requires
+    other-operand-requires
     next-requires-2
     add-compared
     agrees-requires

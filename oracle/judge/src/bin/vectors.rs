@@ -63,6 +63,32 @@ fn of_doubles(patterns: Vec<u64>, answer: impl Fn(f64) -> String) -> Vec<String>
         .collect()
 }
 
+/// Both zeros, numbers of every size, infinities and a NaN.
+const EDGES: [f32; 15] = [
+    0.0,
+    -0.0,
+    1e-45,
+    -1e-45,
+    f32::MIN_POSITIVE,
+    0.25,
+    0.5,
+    -0.5,
+    1.0,
+    -1.0,
+    1.5,
+    f32::MAX,
+    f32::INFINITY,
+    f32::NEG_INFINITY,
+    f32::NAN,
+];
+
+/// Each two of the edges, but for zeros of two signs, of which the Rust leaves open which it gives.
+fn of_pairs(answer: impl Fn(f32, f32) -> String) -> Vec<String> {
+    let open = |a: f32, b: f32| a == 0.0 && b == 0.0 && a.to_bits() != b.to_bits();
+    let pairs = EDGES.into_iter().flat_map(|a| EDGES.map(|b| (a, b)));
+    pairs.filter(|&(a, b)| !open(a, b)).map(|(a, b)| answer(a, b)).collect()
+}
+
 fn single_lists() -> Vec<List> {
     let list = |name, about, lines| List { program: "replay_float", name, about, lines };
     vec![
@@ -95,6 +121,11 @@ fn single_lists() -> Vec<List> {
             "32 bits and the f32 that they are; every NaN is written as 7fc00000.",
             of_singles(edges::singles(), single),
         ),
+        list(
+            "min_f32",
+            "two f32 and their min().",
+            of_pairs(|a, b| format!("{} {} {}", single(a), single(b), single(a.min(b)))),
+        ),
     ]
 }
 
@@ -120,6 +151,14 @@ fn double_lists() -> Vec<List> {
             "narrow_f64",
             "an f64 and the same as f32, ties to even; every NaN is written as 7fc00000.",
             of_doubles(edges::narrowing(), |value| single(value as f32)),
+        ),
+        list(
+            "max_f64",
+            "two f64 and their max().",
+            of_pairs(|a, b| {
+                let (a, b) = (f64::from(a), f64::from(b));
+                format!("{} {} {}", double(a), double(b), double(a.max(b)))
+            }),
         ),
     ]
 }
