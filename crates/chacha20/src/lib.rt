@@ -44,7 +44,7 @@ pub fn quarter(a: u32, b: u32, c: u32, d: u32) -> [u32; 4]
 }
 
 // 2.2: the quarter round on four words of the state.
-pub fn quarter_round(s: &mut [u32; 16], x: usize, y: usize, z: usize, w: usize)
+fn quarter_round(s: &mut [u32; 16], x: usize, y: usize, z: usize, w: usize)
     requires { ⌜ (x < 16) × (y < 16) × (z < 16) × (w < 16) ⌝ }
     ensures { λ _. ⌜ now (s .exit) ≡ quarterRound x y z w (now (s .entry)) ⌝ }
 {

@@ -80,10 +80,6 @@ fn same_words(a: &[u32], b: &[u32]) -> bool {
     true
 }
 
-fn same_state(a: &[u32; 16], b: &[u32; 16]) -> bool {
-    same_words(a, b)
-}
-
 fn is_next(a: Applied, position: u64) -> bool {
     match a {
         Applied::Next(p) => p == position,

@@ -3,38 +3,16 @@
 use crate::replay_block;
 use crate::replay_message;
 use crate::report;
-use crate::same_state;
 use crate::same_words;
 
+// 2.2.1's is on the words 2, 7, 8 and 13 of its state.
 pub fn quarter_rounds() {
     let words = chacha20::quarter(0x1111_1111, 0x0102_0304, 0x9b8d_6f43, 0x0123_4567);
     let expected = [0xea2a_92f4u32, 0xcb1c_f8ce, 0x4581_472e, 0x5881_c4bb];
     report(b"rfc 8439 2.1.1", same_words(&words, &expected));
-    let mut state = [
-        0x8795_31e0u32,
-        0xc5ec_f37d,
-        0x5164_61b1,
-        0xc9a6_2f8a,
-        0x44c2_0ef3,
-        0x3390_af7f,
-        0xd9fc_690b,
-        0x2a5f_714c,
-        0x5337_2767,
-        0xb00a_5631,
-        0x974c_541a,
-        0x359e_9963,
-        0x5c97_1061,
-        0x3d63_1689,
-        0x2098_d9d6,
-        0x91db_d320,
-    ];
-    let mut after = state;
-    after[2] = 0xbdb8_86dc;
-    after[7] = 0xcfac_afd2;
-    after[8] = 0xe46b_ea80;
-    after[13] = 0xccc0_7c79;
-    chacha20::quarter_round(&mut state, 2, 7, 8, 13);
-    report(b"rfc 8439 2.2.1", same_state(&state, &after));
+    let words = chacha20::quarter(0x5164_61b1, 0x2a5f_714c, 0x5337_2767, 0x3d63_1689);
+    let expected = [0xbdb8_86dcu32, 0xcfac_afd2, 0xe46b_ea80, 0xccc0_7c79];
+    report(b"rfc 8439 2.2.1", same_words(&words, &expected));
 }
 
 pub fn blocks() {
