@@ -1,14 +1,15 @@
 -- Bounds through the transforms, the marking and the vote. `Each x a`: the block's 64 values are finite and at most a in size. A pass gives each value as a sum of eight products with a constant that is at most 1/2, so at most 4 a; a transform is two passes.
--- Marking moves a coefficient by less than its step and a little. The vote of a block of such values lies from -1 to 1. Generic in a, up to where the sums stay within a format's whole numbers. Assumes nothing.
+-- Marking moves a coefficient by less than its step and a little. The vote of a block of such values lies from -1 to 1. A bound is n * 2 ^ k with n small enough that the format holds the sums, so 2 ^ 20, which bounds a plane of 8-bit samples, is one. Assumes nothing.
 use mathlib.Core.Path.{_≡_, refl, sym, _∙_, ap, subst}
 use mathlib.Core.Logic.{inl, inr}
 use mathlib.Core.Bool.{Bool, true, false, not}
 use mathlib.Core.List.{List, [], _∷_}
 use Prim.Native.Nat.{ℕ, zero, suc, _+_, _*_, _^_, _≤_, _<_}
-use native.Mathlib.Nat.{zero-lt-suc, le-refl, mul-le-mul-right, eq-or-lt-of-le}
+use native.Mathlib.Nat.{zero-lt-suc, le-refl, mul-assoc, add-mul, eq-or-lt-of-le}
 use native.Mathlib.Omega.{arith}
 use lib.IntN.{ℤ}
 use lib.Dec.{T, eqb, leb, eqb→eq, leb→le, lit≤}
+use lib.Pow.{pow-add}
 use lib.ListN.{length, getD, set}
 use lib.Seq.{getD-set-other}
 use lib.Ieee.{Float, nan, inf, fin, binary32, up, down, add, mul, sub, div, ofBits}
@@ -17,12 +18,14 @@ use lib.Ieee.Scale.{finite}
 use Rattle.seq.specs.Table.{every, at}
 use Rattle.seq.specs.Sum.{sumTo}
 use Rattle.float.specs.Base.{zero-, two-to}
-use Rattle.float.specs.Bounds.{Within, holds-scaled, holds-whole, within-more, within-finite, add-within, sub-within, mul-within, div-within, roundAway-within, sum-to-within}
+use Rattle.float.specs.Bounds.{Within, Holds, holds-whole, within-more, within-finite, add-within, sub-within, mul-within, div-within, roundAway-within, sum-to-within}
+use Rattle.float.specs.Shifted.{Room, holds-shifted, holds-power, room-shifted}
 use Rattle.float.specs.Calls.{roundAway}
 use Rattle.float.specs.Vote.{term, meanOfFour, term-within, mean-within}
 use Rattle.block.specs.Grid.{cell, cell-grid}
 use Rattle.block.specs.Matrix.{matrix, entry, turnedEntry}
 use Rattle.block.specs.Transform.{sumOf, throughRows, throughColumns, forwardOf, inverseOf}
+use Rattle.block.specs.Plane.{lineAt, loadOf, line-fits}
 use Rattle.block.specs.Mark.{coefficients, step, halfOf, markedOf, markedBlock}
 use Rattle.block.specs.Soft.{termOf, voteOf}
 
@@ -62,27 +65,27 @@ entry-within k i K I =
 -- ---- the passes
 
 -- a sum of eight products
-sum-within : (w v : ℕ → Float) (a : ℕ) → 8 * a ≤ 2 ^ 24 → ((j : ℕ) → j < 8 → Within (w j) 1 2) → ((j : ℕ) → j < 8 → Within (v j) a 1) → Within (sumOf (λ j. mul binary32 (w j) (v j))) (4 * a) 1
+sum-within : (w v : ℕ → Float) (a : ℕ) → Room binary32 8 a 2 → ((j : ℕ) → j < 8 → Within (w j) 1 2) → ((j : ℕ) → j < 8 → Within (v j) a 1) → Within (sumOf (λ j. mul binary32 (w j) (v j))) (4 * a) 1
 sum-within w v a A W X =
     within-more (sumOf (λ j. mul binary32 (w j) (v j))) (0 + 8 * a) 2 (4 * a) 1 (zero-lt-suc 1)
-    (sum-to-within binary32 zero- (λ j. mul binary32 (w j) (v j)) 8 a 0 2 (zero-lt-suc 1) (λ i I. holds-scaled binary32 (0 + i * a) 1 (lit≤ tt) (omega (arith, mul-le-mul-right a I))) (le-refl 0) product)
+    (sum-to-within binary32 zero- (λ j. mul binary32 (w j) (v j)) 8 a 0 2 (zero-lt-suc 1) (λ i I. let e : i * a ≡ 0 + i * a = omega arith in subst (λ (z : ℕ). Holds binary32 z 2) e (A i I)) (le-refl 0) product)
     (omega arith)
   where
     product : (j : ℕ) → j < 8 → Within (mul binary32 (w j) (v j)) a 2
     product j J =
         within-more (mul binary32 (w j) (v j)) (1 * a) (2 * 1) a 2 (zero-lt-suc 1)
-        (mul-within binary32 (w j) (v j) 1 2 a 1 (zero-lt-suc 1) (zero-lt-suc 0) (holds-scaled binary32 (1 * a) 1 (lit≤ tt) (omega arith)) (W j J) (X j J))
+        (mul-within binary32 (w j) (v j) 1 2 a 1 (zero-lt-suc 1) (zero-lt-suc 0) (A 1 (lit≤ tt)) (W j J) (X j J))
         (omega arith)
 
 abbrev Weights : (ℕ → ℕ → Float) → Type 0
 Weights w = (k j : ℕ) → k < 8 → j < 8 → Within (w k j) 1 2
 
-rows-within : (w : ℕ → ℕ → Float) (x : List Float) (a : ℕ) → Weights w → 8 * a ≤ 2 ^ 24 → Each x a → Each (throughRows w x) (4 * a)
+rows-within : (w : ℕ → ℕ → Float) (x : List Float) (a : ℕ) → Weights w → Room binary32 8 a 2 → Each x a → Each (throughRows w x) (4 * a)
 unfolding throughRows
 rows-within w x a W A X r k R K =
     subst (λ (z : Float). Within z (4 * a) 1) (sym (cell-grid _ r k R K)) (sum-within (w k) (cell x r) a A (λ j J. W k j K J) (λ j J. X r j R J))
 
-columns-within : (w : ℕ → ℕ → Float) (x : List Float) (a : ℕ) → Weights w → 8 * a ≤ 2 ^ 24 → Each x a → Each (throughColumns w x) (4 * a)
+columns-within : (w : ℕ → ℕ → Float) (x : List Float) (a : ℕ) → Weights w → Room binary32 8 a 2 → Each x a → Each (throughColumns w x) (4 * a)
 unfolding throughColumns
 columns-within w x a W A X k c K C =
     subst (λ (z : Float). Within z (4 * a) 1) (sym (cell-grid _ k c K C)) (sum-within (w k) (λ j. cell x j c) a A (λ j J. W k j K J) (λ j J. X j c J C))
@@ -90,18 +93,25 @@ columns-within w x a W A X k c K C =
 pub each-more : (x : List Float) (a b : ℕ) → a ≤ b → Each x a → Each x b
 each-more x a b h X r c R C = within-more (cell x r c) a 1 b 1 (zero-lt-suc 0) (X r c R C) (omega arith)
 
-pub forward-within : (x : List Float) (a : ℕ) → 32 * a ≤ 2 ^ 24 → Each x a → Each (forwardOf x) (16 * a)
-forward-within x a A X =
-    each-more (forwardOf x) (4 * (4 * a)) (16 * a) (omega arith)
-    (columns-within entry (throughRows entry x) (4 * a) entry-within (omega arith) (rows-within entry x a entry-within (omega arith) X))
+turned-within : Weights turnedEntry
+turned-within i k I K = entry-within k i K I
 
-pub inverse-within : (x : List Float) (a : ℕ) → 32 * a ≤ 2 ^ 24 → Each x a → Each (inverseOf x) (16 * a)
-inverse-within x a A X =
-    each-more (inverseOf x) (4 * (4 * a)) (16 * a) (omega arith)
-    (rows-within turnedEntry (throughColumns turnedEntry x) (4 * a) turned-within (omega arith) (columns-within turnedEntry x a turned-within (omega arith) X))
-  where
-    turned-within : Weights turnedEntry
-    turned-within i k I K = entry-within k i K I
+module _ (x : List Float) (n k : ℕ) (N : 32 * n ≤ 2 ^ 24) (K : k ≤ 100) (X : Each x (n * 2 ^ k)) where
+  first : Room binary32 8 (n * 2 ^ k) 2
+  first = room-shifted binary32 8 n k 1 (lit≤ tt) (omega arith) (omega arith)
+
+  second : Room binary32 8 (4 * (n * 2 ^ k)) 2
+  second = subst (λ (a : ℕ). Room binary32 8 a 2) (mul-assoc 4 n (2 ^ k)) (room-shifted binary32 8 (4 * n) k 1 (lit≤ tt) (omega arith) (omega arith))
+
+  pub forward-within : Each (forwardOf x) (16 * (n * 2 ^ k))
+  forward-within =
+      each-more (forwardOf x) (4 * (4 * (n * 2 ^ k))) (16 * (n * 2 ^ k)) (omega arith)
+      (columns-within entry (throughRows entry x) (4 * (n * 2 ^ k)) entry-within second (rows-within entry x (n * 2 ^ k) entry-within first X))
+
+  pub inverse-within : Each (inverseOf x) (16 * (n * 2 ^ k))
+  inverse-within =
+      each-more (inverseOf x) (4 * (4 * (n * 2 ^ k))) (16 * (n * 2 ^ k)) (omega arith)
+      (rows-within turnedEntry (throughColumns turnedEntry x) (4 * (n * 2 ^ k)) turned-within second (columns-within turnedEntry x (n * 2 ^ k) turned-within first X))
 
 -- ---- the vote
 
@@ -109,19 +119,26 @@ abbrev pub Dither : List Float → Type 0
 Dither u = (k : ℕ) → k < 4 → Within (getD u k nan) 1 1
 
 -- v / 16
-scaled-within : (v : Float) (a : ℕ) → a ≤ 2 ^ 24 → Within v a 1 → Within (div binary32 v step) a 16
-scaled-within v a A h =
-    within-more (div binary32 v step) (a * 1) (1 * 16) a 16 (zero-lt-suc 15)
-    (div-within binary32 v step false a 1 16 1 (zero-lt-suc 0) (zero-lt-suc 15) (zero-lt-suc 0) (holds-scaled binary32 (a * 1) 4 (lit≤ tt) (omega arith)) h (refl, refl))
+scaled-within : (v : Float) (n : ℕ) → n ≤ 2 ^ 24 → Within v (16 * n) 1 → Within (div binary32 v step) n 1
+scaled-within v n N h =
+    let e : n * 16 ≡ 16 * n * 1 = omega arith in
+    within-more (div binary32 v step) (16 * n * 1) (1 * 16) n 1 (zero-lt-suc 15)
+    (div-within binary32 v step false (16 * n) 1 16 1 (zero-lt-suc 0) (zero-lt-suc 15) (zero-lt-suc 0) (subst (λ (z : ℕ). Holds binary32 z 16) e (holds-shifted binary32 n 4 4 (lit≤ tt) (lit≤ tt) N)) h (refl, refl))
     (omega arith)
 
-pub term-of-within : (v u : Float) (a : ℕ) → a + 16 ≤ 2 ^ 24 → Within v a 1 → Within u 1 1 → Within (termOf v u) 1 1
+-- one more, or one less, that is at most 1 in size
+more : (x y : Float) (n : ℕ) → n + 1 ≤ 2 ^ 24 → Within x n 1 → Within y 1 1 → Within (add binary32 x y) (n + 1) 1
+more x y n N h k = add-within binary32 x y n 1 1 (zero-lt-suc 0) (holds-whole binary32 (n + 1) N) h k
+
+less : (x y : Float) (n : ℕ) → n + 1 ≤ 2 ^ 24 → Within x n 1 → Within y 1 1 → Within (sub binary32 x y) (n + 1) 1
+less x y n N h k = sub-within binary32 x y n 1 1 (zero-lt-suc 0) (holds-whole binary32 (n + 1) N) h k
+
+pub term-of-within : (v u : Float) (n : ℕ) → n + 1 ≤ 2 ^ 24 → Within v (16 * n) 1 → Within u 1 1 → Within (termOf v u) 1 1
 unfolding termOf
-term-of-within v u a A h k =
-    let x = sub binary32 (div binary32 v step) u in
-    let w : Within x (a + 16) 16 =
-    sub-within binary32 (div binary32 v step) u a 16 16 (zero-lt-suc 15) (holds-scaled binary32 (a + 16) 4 (lit≤ tt) A) (scaled-within v a (omega arith) h) (within-more u 1 1 16 16 (zero-lt-suc 0) k (lit≤ tt)) in
-    term-within binary32 x (sub-fits binary32 (div binary32 v step) u) (within-finite x (a + 16) 16 w)
+term-of-within v u n N h k =
+    let q = div binary32 v step in
+    let w : Within (sub binary32 q u) (n + 1) 1 = less q u n N (scaled-within v n (omega arith) h) k in
+    term-within binary32 (sub binary32 q u) (sub-fits binary32 q u) (within-finite (sub binary32 q u) (n + 1) 1 w)
 
 marked-cell : (x : List Float) (a k : ℕ) → Each x a → k < 4 → Within (getD x (getD coefficients k 0) nan) a 1
 marked-cell x a zero X h = X 1 1 (lit≤ tt) (lit≤ tt)
@@ -130,13 +147,13 @@ marked-cell x a (suc (suc zero)) X h = X 2 1 (lit≤ tt) (lit≤ tt)
 marked-cell x a (suc (suc (suc zero))) X h = X 2 2 (lit≤ tt) (lit≤ tt)
 marked-cell x a (suc (suc (suc (suc k)))) X h = absurd (omega arith)
 
-pub vote-within : (u x : List Float) (a : ℕ) → a + 16 ≤ 2 ^ 24 → Dither u → Each x a → Within (voteOf u x) 1 1
+pub vote-within : (u x : List Float) (n : ℕ) → n + 1 ≤ 2 ^ 24 → Dither u → Each x (16 * n) → Within (voteOf u x) 1 1
 unfolding voteOf
-vote-within u x a A U X = mean-within binary32 _ (λ k K. term-of-within (getD x (getD coefficients k 0) nan) (getD u k nan) a A (marked-cell x a k X K) (U k K))
+vote-within u x n N U X = mean-within binary32 _ (λ k K. term-of-within (getD x (getD coefficients k 0) nan) (getD u k nan) n N (marked-cell x (16 * n) k X K) (U k K))
 
 -- the vote of a block of samples
-pub block-vote-within : (u x : List Float) (a : ℕ) → a ≤ 2 ^ 19 → Dither u → Each x a → Within (voteOf u (forwardOf x)) 1 1
-block-vote-within u x a A U X = vote-within u (forwardOf x) (16 * a) (omega arith) U (forward-within x a (omega arith) X)
+pub block-vote-within : (u x : List Float) (n k : ℕ) → 32 * n ≤ 2 ^ 24 → k ≤ 100 → n * 2 ^ k + 1 ≤ 2 ^ 24 → Dither u → Each x (n * 2 ^ k) → Within (voteOf u (forwardOf x)) 1 1
+block-vote-within u x n k N K M U X = vote-within u (forwardOf x) (n * 2 ^ k) M U (forward-within x n k N K X)
 
 -- ---- where a coefficient is not finite, its term and the vote are no number
 
@@ -168,15 +185,8 @@ vote-none u x k K e = ap (λ (z : Float). div binary32 z (two-to 2)) (sum-none (
 
 -- ---- marking
 
--- one more, or one less, that is at most 1 in size
-more : (x y : Float) (n : ℕ) → n + 1 ≤ 2 ^ 24 → Within x n 1 → Within y 1 1 → Within (add binary32 x y) (n + 1) 1
-more x y n N h k = add-within binary32 x y n 1 1 (zero-lt-suc 0) (holds-whole binary32 (n + 1) N) h k
-
-less : (x y : Float) (n : ℕ) → n + 1 ≤ 2 ^ 24 → Within x n 1 → Within y 1 1 → Within (sub binary32 x y) (n + 1) 1
-less x y n N h k = sub-within binary32 x y n 1 1 (zero-lt-suc 0) (holds-whole binary32 (n + 1) N) h k
-
 -- a value that is at most 16 n in size is at most 16 (n + 4) when it is marked
-pub marked-within : (v u h : Float) (n : ℕ) → n + 4 ≤ 2 ^ 20 → Within v (16 * n) 1 → Within u 1 1 → Within h 1 1 → Within (markedOf v u h) (16 * (n + 4)) 1
+pub marked-within : (v u h : Float) (n : ℕ) → n + 4 ≤ 2 ^ 24 → Within v (16 * n) 1 → Within u 1 1 → Within h 1 1 → Within (markedOf v u h) (16 * (n + 4)) 1
 unfolding markedOf
 marked-within v u h n N A U H =
     let q = div binary32 v step in
@@ -184,11 +194,11 @@ marked-within v u h n N A U H =
     let m = roundAway binary32 (sub binary32 d h) in
     let s = add binary32 m u in
     let t = add binary32 s h in
-    let Q : Within q n 1 = within-more q (16 * n) 16 n 1 (zero-lt-suc 15) (scaled-within v (16 * n) (omega arith) A) (omega arith) in
+    let Q : Within q n 1 = scaled-within v n (omega arith) A in
     let M : Within m (n + 1 + 1) 1 = roundAway-within binary32 (sub binary32 d h) (n + 1 + 1) (holds-whole binary32 (n + 1 + 1) (omega arith)) (less d h (n + 1) (omega arith) (less q u n (omega arith) Q U) H) in
     let E : Within t (n + 1 + 1 + 1 + 1) 1 = more s h (n + 1 + 1 + 1) (omega arith) (more m u (n + 1 + 1) (omega arith) M U) H in
     within-more (mul binary32 t step) ((n + 1 + 1 + 1 + 1) * 16) (1 * 1) (16 * (n + 4)) 1 (zero-lt-suc 0)
-    (mul-within binary32 t step (n + 1 + 1 + 1 + 1) 1 16 1 (zero-lt-suc 0) (zero-lt-suc 0) (holds-whole binary32 ((n + 1 + 1 + 1 + 1) * 16) (omega arith)) E (lit≤ tt))
+    (mul-within binary32 t step (n + 1 + 1 + 1 + 1) 1 16 1 (zero-lt-suc 0) (zero-lt-suc 0) (holds-power binary32 (n + 1 + 1 + 1 + 1) 4 (lit≤ tt) (omega arith)) E (lit≤ tt))
     (omega arith)
 
 -- a store of a value within the bound keeps it, and any other place holds what it held
@@ -211,7 +221,7 @@ half-of-within zero h = lit≤ tt
 half-of-within (suc zero) h = lit≤ tt
 half-of-within (suc (suc b)) h = absurd (omega arith)
 
-pub mark-within : (u x : List Float) (bit n : ℕ) → bit ≤ 1 → n + 4 ≤ 2 ^ 20 → Dither u → Each x (16 * n) → Each (markedBlock u bit x) (16 * (n + 4))
+pub mark-within : (u x : List Float) (bit n : ℕ) → bit ≤ 1 → n + 4 ≤ 2 ^ 24 → Dither u → Each x (16 * n) → Each (markedBlock u bit x) (16 * (n + 4))
 unfolding markedBlock
 mark-within u x bit n B N U X =
     each-set x₃ 18 _ b (new (getD x₃ 18 nan) 3 (lit≤ tt) (beside x₂ 17 18 _ a (λ e. omega arith) (beside x₁ 10 18 _ a (λ e. omega arith) (beside x 9 18 _ a (λ e. omega arith) (X 2 2 (lit≤ tt) (lit≤ tt))))))
@@ -241,9 +251,46 @@ mark-within u x bit n B N U X =
     new : (v : Float) (k : ℕ) → k < 4 → Within v (16 * n) 1 → Within (markedOf v (getD u k nan) (halfOf bit)) (16 * (n + 4)) 1
     new v k K h = marked-within v (getD u k nan) (halfOf bit) n N h (U k K) (half-of-within bit B)
 
--- ---- a block that is transformed, marked and transformed back: 2 ^ k in size gives 2 ^ (k + 9) at most, from k = 2 on
+-- ---- a block that is transformed, marked and transformed back
 
-pub embed-within : (u x : List Float) (bit a : ℕ) → bit ≤ 1 → a + 4 ≤ 2 ^ 15 → Dither u → Each x a → Each (inverseOf (markedBlock u bit (forwardOf x))) (256 * (a + 4))
-embed-within u x bit a B A U X =
-    each-more (inverseOf (markedBlock u bit (forwardOf x))) (16 * (16 * (a + 4))) (256 * (a + 4)) (omega arith)
-    (inverse-within (markedBlock u bit (forwardOf x)) (16 * (a + 4)) (omega arith) (mark-within u (forwardOf x) bit a B (omega arith) U (forward-within x a (omega arith) X)))
+-- n * 2 ^ k with 4 more, as m * 2 ^ k is: m = 4 at k = 0, and m = 1 from k = 2 on
+module _ (u x : List Float) (bit n m k : ℕ) (B : bit ≤ 1) (N : 32 * (n + m) ≤ 2 ^ 24) (K : k ≤ 96) (M : 4 ≤ m * 2 ^ k) (L : n * 2 ^ k + 4 ≤ 2 ^ 24) (U : Dither u) (X : Each x (n * 2 ^ k)) where
+  pub embed-coefficients : Each (markedBlock u bit (forwardOf x)) (16 * ((n + m) * 2 ^ k))
+  embed-coefficients =
+      each-more (markedBlock u bit (forwardOf x)) (16 * (n * 2 ^ k + 4)) (16 * ((n + m) * 2 ^ k)) (omega (arith, add-mul n m (2 ^ k)))
+      (mark-within u (forwardOf x) bit (n * 2 ^ k) B L U (forward-within x n k (omega arith) (omega arith) X))
+
+  pub embed-within : Each (inverseOf (markedBlock u bit (forwardOf x))) (256 * ((n + m) * 2 ^ k))
+  embed-within =
+      let y = markedBlock u bit (forwardOf x) in
+      let e : (n + m) * 2 ^ (k + 4) ≡ (n + m) * 2 ^ k * 16 = ap (λ (z : ℕ). (n + m) * z) (pow-add 2 k 4) ∙ sym (mul-assoc (n + m) (2 ^ k) 16) in
+      each-more (inverseOf y) (16 * ((n + m) * 2 ^ (k + 4))) (256 * ((n + m) * 2 ^ k)) (omega arith)
+      (inverse-within y (n + m) (k + 4) N (omega arith) (each-more y (16 * ((n + m) * 2 ^ k)) ((n + m) * 2 ^ (k + 4)) (omega arith) embed-coefficients))
+
+-- ---- a plane from 8-bit samples, whose values are at most 2 ^ 20 in size
+
+-- its blocks
+pub load-within : (d : List Float) (a b : ℕ) → b < 1024 → ((p : ℕ) → p < 65536 → Within (getD d p nan) a 1) → Each (loadOf d b) a
+unfolding loadOf
+load-within d a b B D r c R C = subst (λ (z : Float). Within z a 1) (sym (cell-grid (λ r c. getD d (lineAt b r + c) nan) r c R C)) (D (lineAt b r + c) (omega (arith, line-fits b r B R)))
+
+pub plane-vote-within : (x u : List Float) → Each x (2 ^ 20) → Dither u → Within (voteOf u (forwardOf x)) 1 1
+plane-vote-within x u X U = block-vote-within u x 1 20 (lit≤ tt) (lit≤ tt) (lit≤ tt) U X
+
+module _ (u x : List Float) (bit : ℕ) (B : bit ≤ 1) (U : Dither u) (X : Each x (2 ^ 20)) where
+  pub plane-coefficients-within : Each (markedBlock u bit (forwardOf x)) (2 ^ 25)
+  plane-coefficients-within = each-more (markedBlock u bit (forwardOf x)) (16 * ((2 ^ 18 + 1) * 2 ^ 2)) (2 ^ 25) (lit≤ tt) (embed-coefficients u x bit (2 ^ 18) 1 2 B (lit≤ tt) (lit≤ tt) (lit≤ tt) (lit≤ tt) U X)
+
+  embedded : Each (inverseOf (markedBlock u bit (forwardOf x))) (2 ^ 28 + 2 ^ 10)
+  embedded = embed-within u x bit (2 ^ 18) 1 2 B (lit≤ tt) (lit≤ tt) (lit≤ tt) (lit≤ tt) U X
+
+  pub plane-embed-within : Each (inverseOf (markedBlock u bit (forwardOf x))) (2 ^ 29)
+  plane-embed-within = each-more (inverseOf (markedBlock u bit (forwardOf x))) (2 ^ 28 + 2 ^ 10) (2 ^ 29) (lit≤ tt) embedded
+
+  -- the change, marked minus plane
+  pub marked-plane-within : (r c : ℕ) → r < 8 → c < 8 → Within (sub binary32 (cell (inverseOf (markedBlock u bit (forwardOf x))) r c) (cell x r c)) (2 ^ 29) 1
+  marked-plane-within r c R C =
+      let y = inverseOf (markedBlock u bit (forwardOf x)) in
+      within-more (sub binary32 (cell y r c) (cell x r c)) (2 ^ 28 + 2 ^ 10 + 2 ^ 20) 1 (2 ^ 29) 1 (zero-lt-suc 0)
+      (sub-within binary32 (cell y r c) (cell x r c) (2 ^ 28 + 2 ^ 10) (2 ^ 20) 1 (zero-lt-suc 0) (holds-power binary32 (2 ^ 18 + 1 + 2 ^ 10) 10 (lit≤ tt) (lit≤ tt)) (embedded r c R C) (X r c R C))
+      (lit≤ tt)

@@ -3,14 +3,17 @@
 use mathlib.Core.Path.{_≡_, refl, sym, ap, _∙_, subst}
 use mathlib.Core.Bool.{Bool, true, false, not, _&&_, cond}
 use Prim.Native.Nat.{ℕ, suc, _+_, _-_, _*_, _^_, _≤_, _<_}
+use native.Mathlib.Nat.{le-trans, le-of-eq, mul-one, mul-right-comm, mul-le-mul-right, le-of-mul-le-mul-right}
 use native.Mathlib.Omega.{arith}
 use lib.IntN.{ℤ, pos, negℤ, natAbs, _+ℤ_, _-ℤ_, negℤ-negℤ, negℤ-+ℤ, +ℤ-comm}
 use lib.Dec.{T, ltb, ltb→lt, nltb→le}
 use lib.Pow.{pow-pos}
-use lib.Ieee.{Float, Format, prec, emax, low, round, sum, add}
+use lib.Ieee.{Float, nan, inf, fin, Format, prec, emax, low, up, down, round, sum, add}
+use lib.Ieee.Fits.{down-pos}
 use lib.Ieee.Exact.{HasValue}
 use Rattle.float.specs.Fraction.{add-at}
 use Rattle.float.specs.Exact.{Is, signed, abs-neg, abs-signed, pos-neg}
+use Rattle.float.specs.Bounds.{Within}
 use Rattle.float.specs.Error.{rounded}
 
 -- ---- a sum is one rounding of the exact sum
@@ -39,7 +42,7 @@ sum-once f true a false b c = go (ltb a b) (ltb b a) (ltb→lt a b) (ltb→lt b 
     go false true p q p' q' e = record { sign = true; size = a - b; is = refl; whole = sym e }
     go false false p q p' q' e = record { sign = false; size = a - b; is = refl; whole = ap pos (let x : b ≤ a = p' tt in let y : a ≤ b = q' tt in let k : a - b ≡ b - a = omega arith in k) ∙ sym e }
 
-add-once : (f : Format) (c : ℕ) {x y : Float} {z w : ℤ} → 0 < c → Is c x z → Is c y w → Once f c (add f x y) (z +ℤ w)
+pub add-once : (f : Format) (c : ℕ) {x y : Float} {z w : ℤ} → 0 < c → Is c x z → Is c y w → Once f c (add f x y) (z +ℤ w)
 add-once f c {x} {y} {z} {w} C h k =
     let e : signed (h .sign) (h .size) +ℤ signed (k .sign) (k .size) ≡ z +ℤ w = ap (λ (v : ℤ). v +ℤ signed (k .sign) (k .size)) (h .whole) ∙ ap (λ (v : ℤ). z +ℤ v) (k .whole) in
     subst (λ (v : Float). Once f c v (z +ℤ w)) (sym (add-at f x y (h .sign) (k .sign) (h .size) (k .size) c C (h .value) (k .value)))
@@ -80,3 +83,16 @@ add-near f x y z w j J h k l =
       value = record { sign = o .sign; size = r .to; value = subst (λ (v : Float). HasValue v (o .sign) (r .to) U) (sym (o .is)) (r .value); whole = refl };
       off = subst (λ (v : ℤ). dist (signed (o .sign) (r .to)) v * 2 ≤ 2 ^ (j - prec f)) (o .whole) (dist-signed (o .sign) (r .to) (o .size) (2 ^ (j - prec f)) (r .not-more) (r .not-less));
     }
+
+-- ---- a bound on the value bounds the number of units
+
+pub size-within : (f : Format) (x : Float) (z : ℤ) (b : ℕ) → Is (2 ^ low f) x z → Within x b 1 → natAbs z ≤ b * 2 ^ low f
+size-within f x z b h k = subst (λ (n : ℕ). n ≤ b * 2 ^ low f) (sym (ap natAbs (sym (h .whole)) ∙ abs-signed (h .sign) (h .size))) (go x (h .value) k)
+  where
+    go : (x : Float) → HasValue x (h .sign) (h .size) (2 ^ low f) → Within x b 1 → h .size ≤ b * 2 ^ low f
+    go nan v l = absurd v
+    go (inf s) v l = absurd v
+    go (fin s m e) v l =
+        le-of-mul-le-mul-right
+        (le-trans (le-of-eq (sym (v .1))) (le-trans (mul-le-mul-right (2 ^ low f) (le-trans (le-of-eq (sym (mul-one (m * up e)))) l)) (le-of-eq (mul-right-comm b (down e) (2 ^ low f)))))
+        (down-pos e)

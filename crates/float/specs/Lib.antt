@@ -19,5 +19,6 @@ pub mod Absolute
 pub mod Choice
 pub mod Narrow
 pub mod AddError
+pub mod Shifted
 pub mod Vote
 pub mod Sheet

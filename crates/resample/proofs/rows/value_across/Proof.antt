@@ -1,0 +1,132 @@
+-- Before place n the sum is that of the taps of sample x that stand before it; `tap-more` adds one, and `from-inside` keeps its read in the source.
+use mathlib.Core.Path.{_≡_, refl, _∙_}
+use Prim.Native.Nat.{_+_, _-_, _≤_, _<_}
+use native.Mathlib.Omega.{arith}
+use lib.ListN.{length, getD, take}
+use lib.Ieee.{nan, neg, ofBits}
+use denote.Ref.{now}
+use Rattle.float.specs.Base.{zero-}
+use Rattle.window.specs.Window.{taps}
+use Rattle.window.specs.Taps.{start, start-rises}
+use Rattle.resample.specs.Resampled.{total, across}
+use Rattle.resample.specs.Tables.{Tables, offset-at, place-fits, from-inside, tap-more, taps-all, total-none}
+use borrow.Author.Needs.{needs}
+use Rattle.resample.proofs.rows.value_across.Statement.{statement}
+use Rattle.resample.proofs.rows.value_across.Tie as tie
+
+abbrev Inv-loop : tie.InvT-loop
+Inv-loop x dst offsets index weight source a e t₀ n₀ t n = (a ≡ start (length source) dst x) × (e ≡ start (length source) dst (x + 1)) × (a ≤ n) × (n ≤ e) × (t ≡ total zero- (take (n - start (length source) dst x) (taps (length source) dst x)) (λ k. getD source k nan))
+
+abbrev μ-loop : tie.MeasureT-loop
+μ-loop x dst offsets index weight source a e t₀ n₀ t n = e - n
+
+-- in a turn the place is one of the tables'
+bound : (c : tie.In-loop Inv-loop μ-loop) → c .before .loop .n < start (length (now (c .before .before .before .before .before .before .before .before .before .before .args .source))) (c .before .before .before .before .before .before .before .before .before .before .args .dst) (c .before .before .before .before .before .before .before .before .before .before .args .dst)
+bound c = let p = c .before .before .before .before .before .before .before .before .before .before in place-fits (p .pre .0) (p .args .x) (c .before .loop .n) (p .pre .1) (omega arith) (omega arith)
+
+-- and the tap's read lies in the source
+inside : (c : tie.In-loop Inv-loop μ-loop) → getD (now (c .before .before .before .before .before .before .before .before .before .before .args .index)) (c .before .loop .n) 0 < length (now (c .before .before .before .before .before .before .before .before .before .before .args .source))
+inside c = let p = c .before .before .before .before .before .before .before .before .before .before in from-inside (p .pre .0) (p .args .x) (c .before .loop .n) (p .pre .1) (omega arith) (omega arith)
+
+mul-wide : tie.Need-mul-wide Inv-loop μ-loop
+mul-wide c = search needs
+
+shared-slice-read-wide : tie.Need-shared-slice-read-wide Inv-loop μ-loop
+shared-slice-read-wide c = search needs
+
+wide-requires : tie.Need-wide-requires Inv-loop μ-loop
+wide-requires c κs = search needs
+
+add-wide : tie.Need-add-wide Inv-loop μ-loop
+add-wide c = search needs
+
+mul-wide-2 : tie.Need-mul-wide-2 Inv-loop μ-loop
+mul-wide-2 c = search needs
+
+shared-slice-read-wide-2 : tie.Need-shared-slice-read-wide-2 Inv-loop μ-loop
+shared-slice-read-wide-2 c = search needs
+
+wide-requires-2 : tie.Need-wide-requires-2 Inv-loop μ-loop
+wide-requires-2 c κs = search needs
+
+loop-holds : tie.Need-loop-holds Inv-loop μ-loop
+unfolding neg ofBits
+loop-holds c =
+    let p = c .before .before .before .before .before .before .before .before in
+    let src = length (now (p .args .source)) in
+    let t : Tables src (p .args .dst) (now (p .args .offsets)) (now (p .args .index)) (now (p .args .weight)) = p .pre .0 in
+    let a : c .before .before .wide .result ≡ start src (p .args .dst) (p .args .x) = c .before .before .wide .ensures ∙ offset-at t (p .args .x) (omega arith) in
+    let e : c .wide2 .result ≡ start src (p .args .dst) (p .args .x + 1) = c .wide2 .ensures ∙ offset-at t (p .args .x + 1) (omega arith) in
+    let none : c .before .before .wide .result - start src (p .args .dst) (p .args .x) ≡ 0 = omega arith in
+    (a, e, search needs, omega (arith, start-rises src (p .args .dst) (p .args .x) (p .args .x + 1) (omega arith)), rw none (total-none zero- (taps src (p .args .dst) (p .args .x)) (λ k. getD (now (p .args .source)) k nan)))
+
+mul-t : tie.Need-mul-t Inv-loop μ-loop
+mul-t c = omega (arith, bound c)
+
+shared-slice-read-t : tie.Need-shared-slice-read-t Inv-loop μ-loop
+shared-slice-read-t c = omega (arith, bound (c .before))
+
+mul-wide-3 : tie.Need-mul-wide-3 Inv-loop μ-loop
+mul-wide-3 c = record { fits = omega (arith, bound (c .before)) }
+
+shared-slice-read-wide-3 : tie.Need-shared-slice-read-wide-3 Inv-loop μ-loop
+shared-slice-read-wide-3 c = omega (arith, bound (c .before .before))
+
+wide-requires-3 : tie.Need-wide-requires-3 Inv-loop μ-loop
+wide-requires-3 c κs = search needs
+
+mul-t-2 : tie.Need-mul-t-2 Inv-loop μ-loop
+mul-t-2 c = record { fits = omega (arith, inside (c .before .before .before), c .wide3 .ensures) }
+
+shared-slice-read-t-2 : tie.Need-shared-slice-read-t-2 Inv-loop μ-loop
+shared-slice-read-t-2 c = omega (arith, inside (c .before .before .before .before), c .before .wide3 .ensures)
+
+add-n : tie.Need-add-n Inv-loop μ-loop
+add-n c = search needs
+
+loop-less : tie.Need-loop-less Inv-loop μ-loop
+loop-less c = search needs
+
+loop-again : tie.Need-loop-again Inv-loop μ-loop
+loop-again c =
+    let p = c .before .before .before .before .before .before .before .before .before .before .before .before .before .before in
+    let at = c .before .before .before .before .before .loop in
+    let src = length (now (p .args .source)) in
+    let t : Tables src (p .args .dst) (now (p .args .offsets)) (now (p .args .index)) (now (p .args .weight)) = p .pre .0 in
+    let h = at .inv in
+    (h .0, h .1, search needs, search needs, rw (c .before .wide3 .ensures) (tap-more t (p .args .x) (at .n) (p .pre .1) (omega arith) (omega arith) zero- (at .t) (λ k. getD (now (p .args .source)) k nan) (h .4)))
+
+returns : tie.Need-returns Inv-loop μ-loop
+unfolding across
+returns c =
+    let p = c .before .before .before .before .before .before .before .before .before .before in
+    let at = c .before .loop in
+    let src = length (now (p .args .source)) in
+    let e : at .n ≡ start src (p .args .dst) (p .args .x + 1) = omega arith in
+    rw (at .inv .4, e, taps-all (p .pre .0) (p .args .x)) refl
+
+pub value-across-spec : {M : Type 1} → statement M
+value-across-spec =
+    tie.close
+    (tie.spec
+    Inv-loop
+    μ-loop
+    mul-wide
+    shared-slice-read-wide
+    wide-requires
+    add-wide
+    mul-wide-2
+    shared-slice-read-wide-2
+    wide-requires-2
+    loop-holds
+    mul-t
+    shared-slice-read-t
+    mul-wide-3
+    shared-slice-read-wide-3
+    wide-requires-3
+    mul-t-2
+    shared-slice-read-t-2
+    add-n
+    loop-less
+    loop-again
+    returns)

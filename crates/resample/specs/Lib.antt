@@ -1,0 +1,9 @@
+pub mod Resampled
+pub mod Samples
+pub mod Tables
+pub mod Kept
+pub mod Lengths
+pub mod Pixels
+pub mod Sums
+pub mod Changed
+pub mod Finite

@@ -1,0 +1,31 @@
+use mathlib.Core.Path.{_∙_, sym, refl, ap}
+use mathlib.Core.Bool.{Bool, cond}
+use lib.Dec.{T}
+use lib.Ieee.Bits.{is-true}
+use Rattle.float.specs.Base.{yes}
+use Rattle.window.specs.Window.{windowOf, hasWindow}
+use Rattle.window.specs.Range.{has-window}
+use borrow.Author.Needs.{needs}
+use Rattle.window.proofs.Window.new.Statement.{statement}
+use Rattle.window.proofs.Window.new.Tie as tie
+
+has-window-requires : tie.Need-has-window-requires
+has-window-requires c κs = search needs
+
+sample-window-requires : tie.Need-sample-window-requires
+sample-window-requires c κs =
+    let a = c .before .before .args in
+    has-window (a .src) (a .dst) (a .i) (yes (sym (c .before .has-window .ensures) ∙ c .if1 .taken))
+
+empty-requires : tie.Need-empty-requires
+empty-requires c κs = search needs
+
+returns : tie.Need-returns
+returns c = c .sample-window .ensures
+
+returns-2 : tie.Need-returns-2
+unfolding windowOf
+returns-2 c = rw (← c .before .before .has-window .ensures, c .before .if1 .left) (c .empty .ensures)
+
+pub new-spec : {M : Type 1} → statement M
+new-spec = tie.close (tie.spec has-window-requires sample-window-requires empty-requires returns returns-2)

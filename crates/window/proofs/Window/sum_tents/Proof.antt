@@ -1,0 +1,88 @@
+-- After k numbers the sum is that of their positive tents.
+use mathlib.Core.Path.{_≡_, refl, _∙_, ap}
+use mathlib.Core.Logic.{⊎-elim}
+use Prim.Native.Nat.{ℕ, _-_, _^_, _≤_}
+use native.Mathlib.Omega.{arith}
+use lib.IntN.{ℤ, pos, _+ℤ_}
+use lib.Ieee.{ofBits}
+use mir.Syntax.{w64}
+use mir.Val.{toZ, ofZ}
+use mir.ValLaws.{toZ-ofZ}
+use Rattle.window.specs.Window.{sumOf, tentOf, numbers}
+use Rattle.window.specs.Signed.{small-fits, numbers-small}
+use Rattle.window.specs.Steps.{passed, sum-with, sum-without}
+use borrow.Author.Needs.{needs}
+use Rattle.window.proofs.Window.sum_tents.Statement.{statement}
+use Rattle.window.proofs.Window.sum_tents.Tie as tie
+use Rattle.window.proofs.Window.sum_tents.Reads as reads
+use Rattle.window.proofs.Window.sum_tents.Lts as lts
+use Rattle.window.proofs.Window.tent.Reads as tent-reads
+use Rattle.window.proofs.count.Reads as count-reads
+use Rattle.window.proofs.nth.Reads as nth-reads
+
+abbrev Inv-loop : tie.InvT-loop
+Inv-loop self first count sum₀ k₀ sum k = (k ≤ count) × (sum ≡ sumOf self k)
+
+abbrev μ-loop : tie.MeasureT-loop
+μ-loop self first count sum₀ k₀ sum k = count - k
+
+count-requires : tie.Need-count-requires Inv-loop μ-loop
+count-requires c κs = search needs
+
+counted : (c : lts.After-count (count-reads.Asked, count-reads.Learnt, nth-reads.Asked, nth-reads.Learnt, tent-reads.Asked, tent-reads.Learnt) reads.Pre reads.Post Inv-loop μ-loop)
+    → c .count .result ≡ numbers (c .before .before .before .args .self .first) (c .before .before .before .args .self .last)
+counted c =
+    let w = c .before .before .before .args .self in
+    let small = c .before .before .before .pre in
+    rw (toZ-ofZ w64 (w .first) (small-fits (w .first) (small .0)), toZ-ofZ w64 (w .last) (small-fits (w .last) (small .1))) at (c .count .ensures)
+
+loop-holds : tie.Need-loop-holds Inv-loop μ-loop
+unfolding sumOf ofBits
+loop-holds c = (omega arith, refl)
+
+small-k : (c : lts.In-loop (count-reads.Asked, count-reads.Learnt, nth-reads.Asked, nth-reads.Learnt, tent-reads.Asked, tent-reads.Learnt) reads.Pre reads.Post Inv-loop μ-loop) → c .before .loop .k ≤ 2 ^ 32
+small-k c =
+    let w = c .before .before .before .before .before .args .self in
+    let small = c .before .before .before .before .before .pre in
+    omega (arith, counted (c .before .before), numbers-small (w .first) (w .last) (small .0) (small .1))
+
+nth-requires : tie.Need-nth-requires Inv-loop μ-loop
+nth-requires c κs =
+    let w = c .before .before .before .before .before .args .self in
+    let small = c .before .before .before .before .before .pre in
+    (rw (toZ-ofZ w64 (w .first) (small-fits (w .first) (small .0))) (small .0), small-k c)
+
+tent-requires : tie.Need-tent-requires Inv-loop μ-loop
+tent-requires c κs = search needs
+
+is-tent : (c : lts.After-tent (count-reads.Asked, count-reads.Learnt, nth-reads.Asked, nth-reads.Learnt, tent-reads.Asked, tent-reads.Learnt) reads.Pre reads.Post Inv-loop μ-loop)
+    → c .tent .result ≡ tentOf (c .before .before .before .before .before .before .before .args .self) (c .before .before .before .before .before .before .before .args .self .first +ℤ pos (c .before .before .before .loop .k))
+is-tent c =
+    let w = c .before .before .before .before .before .before .before .args .self in
+    let small = c .before .before .before .before .before .before .before .pre in
+    c .tent .ensures ∙ ap (tentOf w) (passed (c .before .nth .result) (w .first) (c .before .before .before .loop .k) (small .0) (small-k (c .before .before)) (c .before .nth .ensures))
+
+add-k : tie.Need-add-k Inv-loop μ-loop
+add-k c = search needs
+
+loop-less : tie.Need-loop-less Inv-loop μ-loop
+loop-less c = search needs
+
+loop-again : tie.Need-loop-again Inv-loop μ-loop
+unfolding ofBits
+loop-again c =
+    let w = c .before .before .before .before .before .before .before .before .args .self in
+    let k = c .before .before .before .before .loop .k in
+    let s = c .before .before .before .before .loop .sum in
+    let e = c .before .before .before .before .loop .inv .1 in (
+      omega arith,
+      ⊎-elim (λ t. t .1 ∙ sum-with w k (c .before .tent .result) (is-tent (c .before)) s (t .0 .taken) e) (λ t. t .1 ∙ sum-without w k (c .before .tent .result) (is-tent (c .before)) s (t .0 .left) e) (c .if1 .came),
+    )
+
+returns : tie.Need-returns Inv-loop μ-loop
+returns c =
+    let e : c .before .loop .k ≡ numbers (c .before .before .before .before .before .args .self .first) (c .before .before .before .before .before .args .self .last) = omega (arith, counted (c .before .before)) in
+    rw e at (c .before .loop .inv .1)
+
+pub sum-tents-spec : {M : Type 1} → statement M
+sum-tents-spec = tie.close (tie.spec Inv-loop μ-loop count-requires loop-holds nth-requires tent-requires add-k loop-less loop-again returns)

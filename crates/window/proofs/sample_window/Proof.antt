@@ -1,0 +1,60 @@
+use mathlib.Core.Path.{_≡_, _∙_, sym, refl, ap, subst}
+use Prim.Native.Nat.{_^_}
+use native.Mathlib.Omega.{arith}
+use lib.Dec.{le→leb}
+use lib.Ieee.{inFloat, ofBits}
+use Rattle.window.specs.declared.Window.{Window}
+use Rattle.window.specs.Window.{scaleOf, centerOf, supportOf, unsummed, summed, windowOf}
+use Rattle.window.specs.Taps.{Small}
+use Rattle.window.specs.Range.{window-sized, first-small, last-small}
+use Rattle.float.proofs.max_f64.Reads as max-f64-reads
+use Rattle.window.proofs.Window.summed.Reads as summed-reads
+use Rattle.window.proofs.unsummed.Reads as unsummed-reads
+use borrow.Author.Needs.{needs}
+use Rattle.window.proofs.sample_window.Statement.{statement}
+use Rattle.window.proofs.sample_window.Tie as tie
+use Rattle.window.proofs.sample_window.Reads as reads
+use Rattle.window.proofs.sample_window.Lts as lts
+
+int-to-float-scale : tie.Need-int-to-float-scale
+unfolding inFloat
+int-to-float-scale c = le→leb (c .before .args .src) (2 ^ 53) (omega arith)
+
+int-to-float-scale-2 : tie.Need-int-to-float-scale-2
+unfolding inFloat
+int-to-float-scale-2 c = le→leb (c .before .before .args .dst) (2 ^ 53) (omega arith)
+
+int-to-float-center : tie.Need-int-to-float-center
+unfolding inFloat
+int-to-float-center c = le→leb (c .before .before .before .args .i) (2 ^ 53) (omega arith)
+
+max-f64-requires : tie.Need-max-f64-requires
+max-f64-requires c κs = search needs
+
+unsummed-requires : tie.Need-unsummed-requires
+unsummed-requires c κs = search needs
+
+is-unsummed : (c : lts.After-unsummed (max-f64-reads.Asked, max-f64-reads.Learnt, unsummed-reads.Asked, unsummed-reads.Learnt, summed-reads.Asked, summed-reads.Learnt) reads.Pre reads.Post)
+    → c .unsummed .result ≡ unsummed (centerOf (c .before .before .before .before .before .args .src) (c .before .before .before .before .before .args .dst) (c .before .before .before .before .before .args .i)) (supportOf (c .before .before .before .before .before .args .src) (c .before .before .before .before .before .args .dst))
+unfolding centerOf scaleOf supportOf ofBits
+is-unsummed c =
+    let a = c .before .before .before .before .before .args in
+    c .unsummed .ensures ∙ ap (unsummed (centerOf (a .src) (a .dst) (a .i))) (c .before .max-f64 .ensures)
+
+-- as it stands in the window
+summed-requires : tie.Need-summed-requires
+summed-requires c κs =
+    let a = c .before .before .before .before .before .args in
+    let p = c .before .before .before .before .before .pre in
+    let e = window-sized (a .src) (a .dst) (a .i) (p .0) (p .1) (p .2) (p .3) (p .4) in
+    let w : Small (windowOf (a .src) (a .dst) (a .i)) = (first-small (a .src) (a .dst) (a .i), last-small (a .src) (a .dst) (a .i)) in
+    subst Small (sym (is-unsummed c)) (subst Small e w)
+
+returns : tie.Need-returns
+returns c =
+    let a = c .before .before .before .before .before .before .args in
+    let p = c .before .before .before .before .before .before .pre in
+    c .summed .ensures ∙ (ap summed (is-unsummed (c .before)) ∙ sym (window-sized (a .src) (a .dst) (a .i) (p .0) (p .1) (p .2) (p .3) (p .4)))
+
+pub sample-window-spec : {M : Type 1} → statement M
+sample-window-spec = tie.close (tie.spec int-to-float-scale int-to-float-scale-2 int-to-float-center max-f64-requires unsummed-requires summed-requires returns)

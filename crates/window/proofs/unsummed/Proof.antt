@@ -1,0 +1,25 @@
+use mathlib.Core.Path.{refl}
+use lib.Ieee.{ofBits}
+use mir.Syntax.{w64}
+use mir.ValLaws.{toZ-ofZ}
+use borrow.Author.Needs.{needs}
+use Rattle.window.proofs.unsummed.Statement.{statement}
+use Rattle.window.proofs.unsummed.Tie as tie
+use Rattle.window.proofs.unsummed.Reads as reads
+use Rattle.window.proofs.unsummed.Lts as lts
+use Rattle.float.proofs.ceil_f64_to_i64.Reads as ceil-f64-to-i64-reads
+use Rattle.float.proofs.floor_f64_to_i64.Reads as floor-f64-to-i64-reads
+
+ceil-f64-to-i64-requires : tie.Need-ceil-f64-to-i64-requires
+ceil-f64-to-i64-requires c κs = search needs
+
+floor-f64-to-i64-requires : tie.Need-floor-f64-to-i64-requires
+floor-f64-to-i64-requires c κs = search needs
+
+returns : tie.Need-returns
+unfolding ofBits
+returns c =
+    rw (toZ-ofZ w64 (c .before .ceil-f64-to-i64 .result) (record { sfits = c .before .ceil-f64-to-i64 .ok }), toZ-ofZ w64 (c .floor-f64-to-i64 .result) (record { sfits = c .floor-f64-to-i64 .ok }), c .before .ceil-f64-to-i64 .ensures, c .floor-f64-to-i64 .ensures) refl
+
+pub unsummed-spec : {M : Type 1} → statement M
+unsummed-spec = tie.close (tie.spec ceil-f64-to-i64-requires floor-f64-to-i64-requires returns)
