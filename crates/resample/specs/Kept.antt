@@ -10,7 +10,7 @@ use lib.Dec.{T, ltb, ltb→lt, nltb→le}
 use lib.ListN.{length, getD, take, drop, set, replicate, length-set, length-replicate}
 use lib.Seq.{take-at, drop-at, length-take-le, getD-set-same, getD-set-other}
 use lib.Ieee.{Float, nan}
-use Rattle.seq.specs.Tab.{tab, tab-same}
+use Rattle.seq.specs.Tab.{tab-same}
 use Rattle.seq.specs.Lines.{part-tab}
 use Rattle.seq.specs.Part.{onPart, length-onPart, onPart-before, onPart-after}
 use Rattle.seq.specs.Rows.{row-fits}

@@ -1,7 +1,7 @@
 -- Rows summed with the weights of a window: with no row, with one more, and with all, which is a row of what is resampled. Assumes nothing.
 use mathlib.Core.Path.{_≡_, refl, sym, _∙_, ap}
 use mathlib.Core.List.{List, [], _∷_, _++_}
-use Prim.Native.Nat.{ℕ, _*_, _<_}
+use Prim.Native.Nat.{ℕ, _*_}
 use lib.ListN.{length, getD, replicate}
 use lib.Ieee.{Float, nan, binary32, add, mul}
 use Rattle.seq.specs.Tab.{tab, tab-same, getD-tab, length-tab, tab-replicate}

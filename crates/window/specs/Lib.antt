@@ -1,8 +1,8 @@
 pub mod Window
-pub mod Taps
 pub mod Signed
 pub mod Steps
 pub mod Range
+pub mod Taps
 pub mod Reach
 pub mod Weights
 pub mod Sheet

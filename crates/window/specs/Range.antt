@@ -14,7 +14,7 @@ use lib.Ieee.{Float, nan, inf, fin, Format, binary64, low, round, ofInt, add, su
 use lib.Ieee.Bits.{is-true}
 use lib.Ieee.Back.{round-whole}
 use lib.Ieee.Exact.{HasValue}
-use lib.Ieee.Fits.{and-i, and-l, and-r, add-fits, sub-fits, div-fits}
+use lib.Ieee.Fits.{and-i, and-l, and-r, add-fits, sub-fits}
 use lib.Ieee.Scale.{grid}
 use Rattle.float.specs.Base.{two-to}
 use Rattle.float.specs.Beside.{half}
@@ -170,10 +170,6 @@ one-fits : T (fits binary64 (two-to 0))
 unfolding fits
 one-fits = tt
 
-pub support-fits : (src dst : ℕ) → T (fits binary64 (supportOf src dst))
-unfolding supportOf scaleOf
-support-fits src dst = most-either (λ (z : Float). T (fits binary64 z)) (scaleOf src dst) (two-to 0) (div-fits binary64 (ofInt binary64 (pos src)) (ofInt binary64 (pos dst))) one-fits
-
 -- ---- its first and last number
 
 mag-le : (z : ℤ) → mag z ≤ natAbs z
@@ -246,11 +242,6 @@ pub numbers-small : (src dst i : ℕ) → numbers (windowOf src dst i .first) (w
 numbers-small src dst i = le-trans (numbers-within src dst i) (lit≤ tt)
 
 -- ---- sums and differences of them
-
-pub difference-small : (src dst i : ℕ) → mag (windowOf src dst i .last -ℤ windowOf src dst i .first) < 2 ^ 31
-difference-small src dst i =
-    let w = windowOf src dst i in
-    lt-of-le-of-lt (le-trans (mag-le (w .last -ℤ w .first)) (difference-le (w .first) (w .last) span (first-within src dst i) (last-within src dst i))) (lit< tt)
 
 pub place-small : (src dst i k : ℕ) → k ≤ 2 ^ 31 → mag (windowOf src dst i .first +ℤ pos k) < 2 ^ 32
 place-small src dst i k h =

@@ -1,7 +1,7 @@
 -- One number of a window more: in the sum of its tents and in its taps. Assumes nothing.
 use mathlib.Core.Path.{_≡_, refl, sym, _∙_, ap}
-use mathlib.Core.Bool.{Bool, true, false, cond}
-use mathlib.Core.Logic.{_⊎_, inl, inr}
+use mathlib.Core.Bool.{true, false}
+use mathlib.Core.Logic.{inl, inr}
 use mathlib.Core.List.{List, [], _∷_, _++_, append-nil}
 use Prim.Native.Nat.{ℕ, zero, suc, _+_, _≤_, _<_, _^_}
 use native.Mathlib.Numerals.{add-one}
@@ -13,11 +13,10 @@ use lib.Seq.{getD-at}
 use lib.Signed.{mag}
 use lib.Ieee.{Float, binary64, add, lt}
 use mir.Syntax.{w64}
-use mir.Val.{toZ, ofZ, SFits}
+use mir.Val.{toZ, ofZ}
 use mir.ValLaws.{toZ-ofZ}
 use Rattle.float.specs.Base.{zero+}
 use Rattle.window.specs.declared.Window.{Window}
-use Rattle.window.specs.declared.Weight.{Weight}
 use Rattle.window.specs.declared.Weight.the-variants.{Of, Nothing}
 use Rattle.window.specs.Window.{Tap, tentOf, sumOf, weightOf, clampOf, tapOf, tapsTo}
 use Rattle.window.specs.Signed.{sum-fits, small-fits}

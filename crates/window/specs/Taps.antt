@@ -1,7 +1,7 @@
 -- The taps of all output samples, one behind the other, as a list of source numbers and a list of weights. Assumes nothing.
 use mathlib.Core.Path.{_≡_, refl, sym, _∙_, ap}
 use mathlib.Core.Logic.{inl, inr}
-use mathlib.Core.List.{List, [], _∷_, _++_, map, map-append}
+use mathlib.Core.List.{List, _++_, map, map-append}
 use Prim.Native.Nat.{ℕ, zero, suc, _+_, _≤_, _<_, _^_}
 use native.Mathlib.Numerals.{add-one}
 use native.Mathlib.Nat.{le-refl, eq-or-lt-of-le}
@@ -13,10 +13,14 @@ use lib.Ieee.{Float}
 use Rattle.seq.specs.Lines.{lines}
 use Rattle.window.specs.declared.Window.{Window}
 use Rattle.window.specs.Window.{Tap, windowOf, tapsOf, taps}
+use Rattle.window.specs.Range.{first-small, last-small}
 
 -- a window on whose numbers no arithmetic overflows
 abbrev pub Small : Window → Type 0
 Small w = (mag (w .first) < 2 ^ 30) × (mag (w .last) < 2 ^ 30)
+
+pub window-small : (w : Window) (src dst i : ℕ) → w ≡ windowOf src dst i → Small w
+window-small w src dst i e = rw e (first-small src dst i, last-small src dst i)
 
 abbrev pub sources : List Tap → List ℕ
 sources ts = map (λ t. t .from) ts
@@ -49,10 +53,6 @@ unfoldable pub onto : {A : Type 0} → List A → List A → List A
 onto s d = s ++ drop (length s) d
 
 module _ {A : Type 0} where
-  pub onto-none : (d : List A) → d ≡ onto [] d
-  unfolding onto
-  onto-none d = refl
-
   -- s in the first places, and t behind it
   pub onto-more : (s t d x : List A) (n m : ℕ) → length s ≡ n → length t ≡ m → x ≡ onto s d → paste x n t m ≡ onto (s ++ t) d
   unfolding onto

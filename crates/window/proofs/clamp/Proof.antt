@@ -1,8 +1,7 @@
 use mathlib.Core.Path.{_≡_}
 use mathlib.Core.Bool.{false}
-use Prim.Native.Nat.{_<_}
 use native.Mathlib.Omega.{arith}
-use lib.IntN.{natAbs, pos}
+use lib.IntN.{pos}
 use lib.Signed.{ltZ, natAbs-le}
 use mir.Syntax.{w64}
 use mir.ValLaws.{toZ-ofZ}
@@ -10,13 +9,11 @@ use Rattle.window.specs.Signed.{clamp-low, clamp-inside, clamp-high, at-
 use borrow.Author.Needs.{needs}
 use Rattle.window.proofs.clamp.Statement.{statement}
 use Rattle.window.proofs.clamp.Tie as tie
-use Rattle.window.proofs.clamp.Reads as reads
-use Rattle.window.proofs.clamp.Lts as lts
 
 returns : tie.Need-returns
 returns c = clamp-low (c .before .args .j) (c .before .args .src) (rw (toZ-ofZ w64 (c .before .args .j) (c .before .fits .j)) at (c .if1 .taken))
 
-order : (c : lts.Else1 reads.Pre reads.Post) → ltZ (c .before .args .j) (pos 0) ≡ false
+order : (c : tie.Else1) → ltZ (c .before .args .j) (pos 0) ≡ false
 order c = rw (toZ-ofZ w64 (c .before .args .j) (c .before .fits .j)) at (c .if1 .left)
 
 cast-k : tie.Need-cast-k

@@ -1,21 +1,17 @@
-use mathlib.Core.Path.{_≡_, refl, ap}
-use mathlib.Core.Bool.{Bool, cond, false}
-use Prim.Native.Nat.{ℕ, suc, _+_}
+use mathlib.Core.Path.{_≡_, refl}
+use mathlib.Core.Bool.{false}
 use native.Mathlib.Numerals.{add-one}
 use native.Mathlib.Omega.{arith}
-use lib.IntN.{ℤ, natAbs, _-ℤ_}
+use lib.IntN.{_-ℤ_}
 use lib.Signed.{ltZ}
 use mir.Syntax.{w64}
 use mir.Val.{toZ, ofZ}
 use mir.ValLaws.{toZ-ofZ}
 use mir.Facts.{fits-le, fits-lit}
 use Rattle.window.specs.Window.{numbers}
-use Rattle.window.specs.Signed.{small-fits, diff-fits, diff-sign, diff-size}
-use borrow.Author.Needs.{needs}
+use Rattle.window.specs.Signed.{diff-fits, diff-sign, diff-size}
 use Rattle.window.proofs.count.Statement.{statement}
 use Rattle.window.proofs.count.Tie as tie
-use Rattle.window.proofs.count.Reads as reads
-use Rattle.window.proofs.count.Lts as lts
 
 returns : tie.Need-returns
 unfolding numbers
@@ -27,13 +23,13 @@ sub-result c =
     (diff-fits (c .before .args .first) (c .before .args .last) (c .before .pre .0) (c .before .pre .1))
 
 -- the difference, as the machine reads it back
-back : (c : lts.Else1 reads.Pre reads.Post)
+back : (c : tie.Else1)
     → toZ w64 (ofZ w64 (toZ w64 (ofZ w64 (c .before .args .last)) -ℤ toZ w64 (ofZ w64 (c .before .args .first)))) ≡ c .before .args .last -ℤ c .before .args .first
 back c =
     rw (toZ-ofZ w64 (c .before .args .first) (c .before .fits .first), toZ-ofZ w64 (c .before .args .last) (c .before .fits .last))
     (toZ-ofZ w64 (c .before .args .last -ℤ c .before .args .first) (diff-fits (c .before .args .first) (c .before .args .last) (c .before .pre .0) (c .before .pre .1)))
 
-order : (c : lts.Else1 reads.Pre reads.Post) → ltZ (c .before .args .last) (c .before .args .first) ≡ false
+order : (c : tie.Else1) → ltZ (c .before .args .last) (c .before .args .first) ≡ false
 order c = rw (toZ-ofZ w64 (c .before .args .first) (c .before .fits .first), toZ-ofZ w64 (c .before .args .last) (c .before .fits .last)) at (c .if1 .left)
 
 cast-result : tie.Need-cast-result

@@ -1,10 +1,7 @@
 use mathlib.Core.Path.{refl}
 use lib.Ieee.{ofBits}
-use borrow.Author.Needs.{needs}
 use Rattle.window.proofs.empty.Statement.{statement}
 use Rattle.window.proofs.empty.Tie as tie
-use Rattle.window.proofs.empty.Reads as reads
-use Rattle.window.proofs.empty.Lts as lts
 
 returns : tie.Need-returns
 unfolding ofBits

@@ -2,9 +2,6 @@ use mathlib.Core.Path.{refl}
 use borrow.Author.Needs.{needs}
 use Rattle.window.proofs.has_window.Statement.{statement}
 use Rattle.window.proofs.has_window.Tie as tie
-use Rattle.window.proofs.has_window.Reads as reads
-use Rattle.window.proofs.has_window.Lts as lts
-use Rattle.window.proofs.sized.Reads as sized-reads
 
 sized-requires : tie.Need-sized-requires
 sized-requires c κs = search needs

@@ -1,18 +1,16 @@
 -- After k numbers the taps among them stand from place n on.
 use mathlib.Core.Path.{_≡_, refl, sym, _∙_, ap}
-use mathlib.Core.List.{List, [], _∷_}
-use Prim.Native.Nat.{ℕ, _+_, _-_, _^_, _≤_, _<_}
-use native.Mathlib.Nat.{add-zero, add-assoc}
+use mathlib.Core.List.{[], _∷_}
+use Prim.Native.Nat.{_+_, _-_, _^_, _≤_, _<_}
+use native.Mathlib.Nat.{add-zero}
 use native.Mathlib.Omega.{arith}
 use lib.IntN.{ℤ, pos, _+ℤ_}
 use lib.ListN.{length, getD, length-append, length-set}
-use lib.Seq.{paste, paste-zero, length-paste}
-use lib.Ieee.{Float}
+use lib.Seq.{paste, paste-zero}
 use mir.Syntax.{w64}
 use mir.Val.{toZ, ofZ}
 use mir.ValLaws.{toZ-ofZ}
-use Rattle.window.specs.declared.Weight.{Weight}
-use Rattle.window.specs.declared.Weight.the-variants.{Of, Nothing}
+use Rattle.window.specs.declared.Weight.the-variants.{Of}
 use Rattle.window.specs.Window.{Tap, numbers, weightOf, clampOf, tapsTo, tapsOf}
 use Rattle.window.specs.Taps.{sources, weights, laid-more}
 use Rattle.window.specs.Signed.{small-fits, numbers-small, clamp-below}
@@ -20,12 +18,6 @@ use Rattle.window.specs.Steps.{passed, taps-none, taps-one, tap-at, tap-
 use borrow.Author.Needs.{needs}
 use Rattle.window.proofs.push.Statement.{statement}
 use Rattle.window.proofs.push.Tie as tie
-use Rattle.window.proofs.push.Reads as reads
-use Rattle.window.proofs.push.Lts as lts
-use Rattle.window.proofs.Window.weight.Reads as weight-reads
-use Rattle.window.proofs.clamp.Reads as clamp-reads
-use Rattle.window.proofs.count.Reads as count-reads
-use Rattle.window.proofs.nth.Reads as nth-reads
 
 abbrev Inv-loop : tie.InvT-loop
 Inv-loop w src n index₀ weight₀ first count at₀ k₀ index weight at k =
@@ -37,7 +29,7 @@ abbrev μ-loop : tie.MeasureT-loop
 count-requires : tie.Need-count-requires Inv-loop μ-loop
 count-requires c κs = search needs
 
-counted : (c : lts.After-count (count-reads.Asked, count-reads.Learnt, nth-reads.Asked, nth-reads.Learnt, weight-reads.Asked, weight-reads.Learnt, clamp-reads.Asked, clamp-reads.Learnt) reads.Pre reads.Post Inv-loop μ-loop) → c .count .result ≡ numbers (c .before .before .before .before .before .args .w .first) (c .before .before .before .before .before .args .w .last)
+counted : (c : tie.After-count Inv-loop μ-loop) → c .count .result ≡ numbers (c .before .before .before .before .before .args .w .first) (c .before .before .before .before .before .args .w .last)
 counted c =
     let w = c .before .before .before .before .before .args .w in
     let small = c .before .before .before .before .before .pre .0 in
@@ -49,7 +41,7 @@ loop-holds c =
     let a = c .before .before .before .before .before .args in
     (omega arith, sym (add-zero (a .n)), paste-zero (a .index .now) (a .n) (sources (tapsOf (a .w) (a .src))), paste-zero (a .weight .now) (a .n) (weights (tapsOf (a .w) (a .src))), refl, refl)
 
-small-k : (c : lts.In-loop (count-reads.Asked, count-reads.Learnt, nth-reads.Asked, nth-reads.Learnt, weight-reads.Asked, weight-reads.Learnt, clamp-reads.Asked, clamp-reads.Learnt) reads.Pre reads.Post Inv-loop μ-loop) → c .before .loop .k ≤ 2 ^ 32
+small-k : (c : tie.In-loop Inv-loop μ-loop) → c .before .loop .k ≤ 2 ^ 32
 small-k c =
     let w = c .before .before .before .before .before .before .before .args .w in
     let small = c .before .before .before .before .before .before .before .pre .0 in
@@ -77,13 +69,13 @@ loop-less : tie.Need-loop-less Inv-loop μ-loop
 loop-less c = search needs
 
 -- the number of the turn, as the calls are passed it, and its weight
-number : (c : lts.After-nth (count-reads.Asked, count-reads.Learnt, nth-reads.Asked, nth-reads.Learnt, weight-reads.Asked, weight-reads.Learnt, clamp-reads.Asked, clamp-reads.Learnt) reads.Pre reads.Post Inv-loop μ-loop) → toZ w64 (ofZ w64 (c .nth .result)) ≡ c .before .before .before .before .before .before .before .before .args .w .first +ℤ pos (c .before .before .loop .k)
+number : (c : tie.After-nth Inv-loop μ-loop) → toZ w64 (ofZ w64 (c .nth .result)) ≡ c .before .before .before .before .before .before .before .before .args .w .first +ℤ pos (c .before .before .loop .k)
 number c =
     let w = c .before .before .before .before .before .before .before .before .args .w in
     let small = c .before .before .before .before .before .before .before .before .pre .0 in
     passed (c .nth .result) (w .first) (c .before .before .loop .k) (small .0) (small-k (c .before)) (c .nth .ensures)
 
-weighed : (c : lts.After-weight (count-reads.Asked, count-reads.Learnt, nth-reads.Asked, nth-reads.Learnt, weight-reads.Asked, weight-reads.Learnt, clamp-reads.Asked, clamp-reads.Learnt) reads.Pre reads.Post Inv-loop μ-loop)
+weighed : (c : tie.After-weight Inv-loop μ-loop)
     → c .weight .result ≡ weightOf (c .before .before .before .before .before .before .before .before .before .args .w) (c .before .before .before .before .before .before .before .before .before .args .w .first +ℤ pos (c .before .before .before .loop .k))
 weighed c = c .weight .ensures ∙ ap (weightOf (c .before .before .before .before .before .before .before .before .before .args .w)) (number (c .before))
 
@@ -103,12 +95,12 @@ cast-index c =
     let p = c .before .before .before .before .before .before .before .before .before .before .before .before .before in
     record { fits = omega (arith, c .clamp .ensures, clamp-below (toZ w64 (ofZ w64 (c .before .before .before .before .before .nth .result))) (p .args .src) (p .pre .1)) }
 
-weight-of : (c : lts.After-clamp (count-reads.Asked, count-reads.Learnt, nth-reads.Asked, nth-reads.Learnt, weight-reads.Asked, weight-reads.Learnt, clamp-reads.Asked, clamp-reads.Learnt) reads.Pre reads.Post Inv-loop μ-loop)
+weight-of : (c : tie.After-clamp Inv-loop μ-loop)
     → weightOf (c .before .before .before .before .before .before .before .before .before .before .before .before .before .args .w) (c .before .before .before .before .before .before .before .before .before .before .before .before .before .args .w .first +ℤ pos (c .before .before .before .before .before .before .before .loop .k)) ≡ Of (c .before .before .q .given .0 .0)
 weight-of c = sym (weighed (c .before .before .before .before)) ∙ c .before .before .q .given .1
 
 -- there is room for the tap of the turn
-room : (c : lts.After-clamp (count-reads.Asked, count-reads.Learnt, nth-reads.Asked, nth-reads.Learnt, weight-reads.Asked, weight-reads.Learnt, clamp-reads.Asked, clamp-reads.Learnt) reads.Pre reads.Post Inv-loop μ-loop) → c .before .before .before .before .before .before .before .loop .at < length (c .before .before .before .before .before .before .before .before .before .before .before .before .before .args .index .now)
+room : (c : tie.After-clamp Inv-loop μ-loop) → c .before .before .before .before .before .before .before .loop .at < length (c .before .before .before .before .before .before .before .before .before .before .before .before .before .args .index .now)
 room c =
     let p = c .before .before .before .before .before .before .before .before .before .before .before .before .before in
     let k = c .before .before .before .before .before .before .before .loop .k in

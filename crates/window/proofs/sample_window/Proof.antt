@@ -1,20 +1,14 @@
-use mathlib.Core.Path.{_≡_, _∙_, sym, refl, ap, subst}
+use mathlib.Core.Path.{_≡_, _∙_, sym, ap, subst}
 use Prim.Native.Nat.{_^_}
 use native.Mathlib.Omega.{arith}
 use lib.Dec.{le→leb}
 use lib.Ieee.{inFloat, ofBits}
-use Rattle.window.specs.declared.Window.{Window}
 use Rattle.window.specs.Window.{scaleOf, centerOf, supportOf, unsummed, summed, windowOf}
 use Rattle.window.specs.Taps.{Small}
 use Rattle.window.specs.Range.{window-sized, first-small, last-small}
-use Rattle.float.proofs.max_f64.Reads as max-f64-reads
-use Rattle.window.proofs.Window.summed.Reads as summed-reads
-use Rattle.window.proofs.unsummed.Reads as unsummed-reads
 use borrow.Author.Needs.{needs}
 use Rattle.window.proofs.sample_window.Statement.{statement}
 use Rattle.window.proofs.sample_window.Tie as tie
-use Rattle.window.proofs.sample_window.Reads as reads
-use Rattle.window.proofs.sample_window.Lts as lts
 
 int-to-float-scale : tie.Need-int-to-float-scale
 unfolding inFloat
@@ -34,7 +28,7 @@ max-f64-requires c κs = search needs
 unsummed-requires : tie.Need-unsummed-requires
 unsummed-requires c κs = search needs
 
-is-unsummed : (c : lts.After-unsummed (max-f64-reads.Asked, max-f64-reads.Learnt, unsummed-reads.Asked, unsummed-reads.Learnt, summed-reads.Asked, summed-reads.Learnt) reads.Pre reads.Post)
+is-unsummed : (c : tie.After-unsummed)
     → c .unsummed .result ≡ unsummed (centerOf (c .before .before .before .before .before .args .src) (c .before .before .before .before .before .args .dst) (c .before .before .before .before .before .args .i)) (supportOf (c .before .before .before .before .before .args .src) (c .before .before .before .before .before .args .dst))
 unfolding centerOf scaleOf supportOf ofBits
 is-unsummed c =

@@ -1,10 +1,7 @@
 use mathlib.Core.Path.{refl}
 use borrow.Author.Tests.{lt-ltb, le-ltb}
-use borrow.Author.Needs.{needs}
 use Rattle.window.proofs.sized.Statement.{statement}
 use Rattle.window.proofs.sized.Tie as tie
-use Rattle.window.proofs.sized.Reads as reads
-use Rattle.window.proofs.sized.Lts as lts
 
 returns : tie.Need-returns
 returns c = rw (lt-ltb 0 (c .before .args .n) (c .if1 .taken)) refl

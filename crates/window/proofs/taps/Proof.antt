@@ -1,22 +1,14 @@
 -- After i output samples their taps stand one behind the other, with the places where each one's start.
-use mathlib.Core.Path.{_≡_, refl, sym, _∙_, ap, subst}
-use mathlib.Core.List.{List}
-use Prim.Native.Nat.{ℕ, _+_, _-_, _≤_, _<_}
+use mathlib.Core.Path.{_≡_, refl, sym, _∙_, ap}
+use Prim.Native.Nat.{_+_, _-_, _≤_}
 use native.Mathlib.Omega.{arith}
-use lib.ListN.{length, set, length-set}
-use lib.Seq.{paste}
+use lib.ListN.{length, length-set}
 use Rattle.seq.specs.Tab.{filled, filled-none, filled-more}
-use Rattle.window.specs.declared.Window.{Window}
 use Rattle.window.specs.Window.{tapsOf, taps, windowOf}
-use Rattle.window.specs.Taps.{Small, taps-of, start, sources, weights, allTaps, onto, start-none, start-more, start-rises, all-none, all-pushed, all-length}
-use Rattle.window.specs.Range.{first-small, last-small}
+use Rattle.window.specs.Taps.{window-small, taps-of, start, sources, weights, allTaps, onto, start-none, start-more, start-rises, all-none, all-pushed, all-length}
 use borrow.Author.Needs.{needs}
 use Rattle.window.proofs.taps.Statement.{statement}
 use Rattle.window.proofs.taps.Tie as tie
-use Rattle.window.proofs.taps.Reads as reads
-use Rattle.window.proofs.taps.Lts as lts
-use Rattle.window.proofs.Window.new.Reads as new-reads
-use Rattle.window.proofs.push.Reads as push-reads
 
 abbrev Inv-loop : tie.InvT-loop
 Inv-loop src dst offsets₀ index₀ weight₀ n₀ i₀ offsets index weight n i =
@@ -52,10 +44,9 @@ push-requires c κs =
     let at = c .before .before .before .before .loop in
     let w = c .before .before .new .result in
     let e : w ≡ windowOf (a .src) (a .dst) (at .i) = c .before .before .new .ensures in
-    let small : Small w = subst Small (sym e) (first-small (a .src) (a .dst) (at .i), last-small (a .src) (a .dst) (at .i)) in
     let room : at .n + length (tapsOf w (a .src)) ≤ length (at .index) =
     rw (taps-of w (a .src) (a .dst) (at .i) e) (omega (arith, at .inv .1, start-more (a .src) (a .dst) (at .i), start-rises (a .src) (a .dst) (at .i + 1) (a .dst) (omega arith))) in
-    (small, p .pre .0, p .pre .1, room, at .inv .7 ∙ (p .pre .5 ∙ sym (at .inv .6)))
+    (window-small w (a .src) (a .dst) (at .i) e, p .pre .0, p .pre .1, room, at .inv .7 ∙ (p .pre .5 ∙ sym (at .inv .6)))
 
 add-i : tie.Need-add-i Inv-loop μ-loop
 add-i c = search needs

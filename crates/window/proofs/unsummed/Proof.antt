@@ -5,10 +5,6 @@ use mir.ValLaws.{toZ-ofZ}
 use borrow.Author.Needs.{needs}
 use Rattle.window.proofs.unsummed.Statement.{statement}
 use Rattle.window.proofs.unsummed.Tie as tie
-use Rattle.window.proofs.unsummed.Reads as reads
-use Rattle.window.proofs.unsummed.Lts as lts
-use Rattle.float.proofs.ceil_f64_to_i64.Reads as ceil-f64-to-i64-reads
-use Rattle.float.proofs.floor_f64_to_i64.Reads as floor-f64-to-i64-reads
 
 ceil-f64-to-i64-requires : tie.Need-ceil-f64-to-i64-requires
 ceil-f64-to-i64-requires c κs = search needs

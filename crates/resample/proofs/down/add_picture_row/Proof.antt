@@ -1,23 +1,14 @@
 -- The row is kept, and then added.
-use mathlib.Core.Path.{_≡_, refl, sym, _∙_, ap}
-use Prim.Native.Nat.{ℕ, _+_, _*_, _%_, _≤_}
+use mathlib.Core.Path.{_≡_, sym, _∙_, ap}
 use native.Mathlib.Omega.{arith}
-use lib.ListN.{length, drop, take, length-drop}
-use lib.Seq.{length-take-le}
-use lib.Ieee.{Float}
-use mathlib.Core.List.{List}
-use Rattle.seq.specs.Tab.{tab, length-tab}
+use lib.ListN.{length, drop, take}
+use Rattle.seq.specs.Tab.{length-tab}
 use Rattle.resample.specs.Samples.{narrowRow}
-use Rattle.resample.specs.Tables.{addedAt}
 use Rattle.resample.specs.Kept.{part-size}
 use Rattle.resample.specs.Lengths.{narrow-length}
 use borrow.Author.Needs.{needs}
 use Rattle.resample.proofs.down.add_picture_row.Statement.{statement}
 use Rattle.resample.proofs.down.add_picture_row.Tie as tie
-use Rattle.resample.proofs.down.add_picture_row.Reads as reads
-use Rattle.resample.proofs.down.add_picture_row.Lts as lts
-use Rattle.resample.proofs.down.keep.Reads as keep-reads
-use Rattle.resample.proofs.rows.add_row.Reads as add-row-reads
 
 keep-requires : tie.Need-keep-requires
 keep-requires c κs = let p = c .before .before .before .before .before .before .before .before .before .before .before .pre in (p .0, p .1, p .2, p .3)

@@ -1,7 +1,7 @@
 -- After k numbers of the window the sum is that of the rows among them that have a weight.
 use mathlib.Core.Path.{_≡_, refl, sym, _∙_, ap}
-use mathlib.Core.List.{List, []}
-use Prim.Native.Nat.{ℕ, _+_, _-_, _^_, _≤_, _<_}
+use mathlib.Core.List.{[]}
+use Prim.Native.Nat.{_+_, _-_, _^_, _≤_, _<_}
 use native.Mathlib.Omega.{arith}
 use lib.IntN.{ℤ, pos, _+ℤ_}
 use lib.ListN.{length}
@@ -18,13 +18,6 @@ use Rattle.resample.specs.Sums.{sumRows, sum-more, length-sum}
 use borrow.Author.Needs.{needs}
 use Rattle.resample.proofs.down.add_window.Statement.{statement}
 use Rattle.resample.proofs.down.add_window.Tie as tie
-use Rattle.resample.proofs.down.add_window.Reads as reads
-use Rattle.resample.proofs.down.add_window.Lts as lts
-use Rattle.resample.proofs.down.add_picture_row.Reads as add-picture-row-reads
-use Rattle.window.proofs.Window.weight.Reads as weight-reads
-use Rattle.window.proofs.clamp.Reads as clamp-reads
-use Rattle.window.proofs.count.Reads as count-reads
-use Rattle.window.proofs.nth.Reads as nth-reads
 
 abbrev Inv-loop : tie.InvT-loop
 Inv-loop w height channels samples offsets index weight line₀ rows₀ held₀ sum₀ first count k₀ line rows held sum k =
@@ -37,7 +30,7 @@ abbrev μ-loop : tie.MeasureT-loop
 count-requires : tie.Need-count-requires Inv-loop μ-loop
 count-requires c κs = search needs
 
-counted : (c : lts.After-count (count-reads.Asked, count-reads.Learnt, nth-reads.Asked, nth-reads.Learnt, weight-reads.Asked, weight-reads.Learnt, clamp-reads.Asked, clamp-reads.Learnt, add-picture-row-reads.Asked, add-picture-row-reads.Learnt) reads.Pre reads.Post Inv-loop μ-loop) → c .count .result ≡ numbers (c .before .before .before .before .before .before .before .before .before .before .before .args .w .first) (c .before .before .before .before .before .before .before .before .before .before .before .args .w .last)
+counted : (c : tie.After-count Inv-loop μ-loop) → c .count .result ≡ numbers (c .before .before .before .before .before .before .before .before .before .before .before .args .w .first) (c .before .before .before .before .before .before .before .before .before .before .before .args .w .last)
 counted c =
     let w = c .before .before .before .before .before .before .before .before .before .before .before .args .w in
     let small = c .before .before .before .before .before .before .before .before .before .before .before .pre .0 in
@@ -49,7 +42,7 @@ loop-holds c =
     let p = c .before .before .before .before .before .before .before .before .before .before .before in
     (omega arith, refl, p .pre .3, p .pre .4, refl, refl, refl)
 
-small-k : (c : lts.In-loop (count-reads.Asked, count-reads.Learnt, nth-reads.Asked, nth-reads.Learnt, weight-reads.Asked, weight-reads.Learnt, clamp-reads.Asked, clamp-reads.Learnt, add-picture-row-reads.Asked, add-picture-row-reads.Learnt) reads.Pre reads.Post Inv-loop μ-loop) → c .before .loop .k ≤ 2 ^ 32
+small-k : (c : tie.In-loop Inv-loop μ-loop) → c .before .loop .k ≤ 2 ^ 32
 small-k c =
     let w = c .before .before .before .before .before .before .before .before .before .before .before .before .before .args .w in
     let small = c .before .before .before .before .before .before .before .before .before .before .before .before .before .pre .0 in
@@ -71,13 +64,13 @@ enum-told : tie.Need-enum-told Inv-loop μ-loop
 enum-told c = search needs
 
 -- the number of the turn, as the calls are passed it, and its weight
-number : (c : lts.After-nth (count-reads.Asked, count-reads.Learnt, nth-reads.Asked, nth-reads.Learnt, weight-reads.Asked, weight-reads.Learnt, clamp-reads.Asked, clamp-reads.Learnt, add-picture-row-reads.Asked, add-picture-row-reads.Learnt) reads.Pre reads.Post Inv-loop μ-loop) → toZ w64 (ofZ w64 (c .nth .result)) ≡ c .before .before .before .before .before .before .before .before .before .before .before .before .before .before .args .w .first +ℤ pos (c .before .before .loop .k)
+number : (c : tie.After-nth Inv-loop μ-loop) → toZ w64 (ofZ w64 (c .nth .result)) ≡ c .before .before .before .before .before .before .before .before .before .before .before .before .before .before .args .w .first +ℤ pos (c .before .before .loop .k)
 number c =
     let w = c .before .before .before .before .before .before .before .before .before .before .before .before .before .before .args .w in
     let small = c .before .before .before .before .before .before .before .before .before .before .before .before .before .before .pre .0 in
     passed (c .nth .result) (w .first) (c .before .before .loop .k) (small .0) (small-k (c .before)) (c .nth .ensures)
 
-weighed : (c : lts.After-weight (count-reads.Asked, count-reads.Learnt, nth-reads.Asked, nth-reads.Learnt, weight-reads.Asked, weight-reads.Learnt, clamp-reads.Asked, clamp-reads.Learnt, add-picture-row-reads.Asked, add-picture-row-reads.Learnt) reads.Pre reads.Post Inv-loop μ-loop) → c .weight .result ≡ weightOf (c .before .before .before .before .before .before .before .before .before .before .before .before .before .before .before .args .w) (c .before .before .before .before .before .before .before .before .before .before .before .before .before .before .before .args .w .first +ℤ pos (c .before .before .before .loop .k))
+weighed : (c : tie.After-weight Inv-loop μ-loop) → c .weight .result ≡ weightOf (c .before .before .before .before .before .before .before .before .before .before .before .before .before .before .before .args .w) (c .before .before .before .before .before .before .before .before .before .before .before .before .before .before .before .args .w .first +ℤ pos (c .before .before .before .loop .k))
 weighed c = c .weight .ensures ∙ ap (weightOf (c .before .before .before .before .before .before .before .before .before .before .before .before .before .before .before .args .w)) (number (c .before))
 
 add-k : tie.Need-add-k Inv-loop μ-loop

@@ -1,6 +1,6 @@
 -- The row stands where `held` says, or is made and put there; the other places are as they were.
 use mathlib.Core.Path.{_≡_, refl, sym, _∙_, ap}
-use Prim.Native.Nat.{ℕ, suc, _+_, _*_, _%_, _≤_}
+use Prim.Native.Nat.{suc, _+_, _*_, _%_, _≤_}
 use native.Mathlib.Numerals.{add-one}
 use native.Mathlib.Omega.{arith}
 use lib.ListN.{length, getD, drop, length-drop}
@@ -12,10 +12,6 @@ use Rattle.resample.specs.Lengths.{narrow-length}
 use borrow.Author.Needs.{needs}
 use Rattle.resample.proofs.down.keep.Statement.{statement}
 use Rattle.resample.proofs.down.keep.Tie as tie
-use Rattle.resample.proofs.down.keep.Reads as reads
-use Rattle.resample.proofs.down.keep.Lts as lts
-use Rattle.resample.proofs.down.narrow_row.Reads as narrow-row-reads
-use Rattle.resample.proofs.rows.wide.Reads as wide-reads
 
 mul-at : tie.Need-mul-at
 mul-at c = search needs

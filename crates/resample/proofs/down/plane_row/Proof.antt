@@ -1,11 +1,9 @@
 -- From zeros, the rows of the window are added.
-use mathlib.Core.Path.{_≡_, refl, sym, _∙_, ap, subst}
+use mathlib.Core.Path.{sym, _∙_, ap}
 use lib.ListN.{length, replicate}
-use lib.Ieee.{Float, ofBits}
+use lib.Ieee.{ofBits}
 use Rattle.float.specs.Base.{zero+}
-use Rattle.window.specs.declared.Window.{Window}
-use Rattle.window.specs.Taps.{Small, taps-of}
-use Rattle.window.specs.Range.{first-small, last-small}
+use Rattle.window.specs.Taps.{window-small, taps-of}
 use Rattle.resample.specs.Samples.{narrowRow}
 use Rattle.resample.specs.Sums.{sumRows, sum-none, length-sum, plane-of}
 use borrow.Author.Needs.{needs}
@@ -23,9 +21,7 @@ unfolding ofBits
 add-window-requires c κs =
     let p = c .before .before .before .before .before .before .before .before .before .before .before .before .before .before .before .before .before in
     let a = p .args in
-    let w = c .before .before .before .before .new .result in
-    let small : Small w = subst Small (sym (c .before .before .before .before .new .ensures)) (first-small (a .height) 256 (a .y), last-small (a .height) 256 (a .y)) in
-    (small, p .pre .0, p .pre .1, p .pre .2, (c .before .before .before .before .before .before .before .zero-floats .ensures) ∙ (ap (λ n. replicate n zero+) (p .pre .3) ∙ sum-none 256 (narrowRow (length (a .line .now)) (a .channels) (a .samples .now))))
+    (window-small (c .before .before .before .before .new .result) (a .height) 256 (a .y) (c .before .before .before .before .new .ensures), p .pre .0, p .pre .1, p .pre .2, (c .before .before .before .before .before .before .before .zero-floats .ensures) ∙ (ap (λ n. replicate n zero+) (p .pre .3) ∙ sum-none 256 (narrowRow (length (a .line .now)) (a .channels) (a .samples .now))))
 
 same-length : tie.Need-same-length
 same-length c = c .before .before .before .before .before .before .before .before .add-window .ensures .0

@@ -1,6 +1,6 @@
 -- The row stands where `held` says, or is made and put there; the other place is as it was.
 use mathlib.Core.Path.{_≡_, refl, sym, _∙_, ap}
-use Prim.Native.Nat.{ℕ, suc, _+_, _-_, _*_, _%_, _≤_}
+use Prim.Native.Nat.{suc, _+_, _-_, _*_, _%_, _≤_}
 use native.Mathlib.Numerals.{add-one}
 use native.Mathlib.Omega.{arith}
 use lib.ListN.{length, getD, take, drop, length-drop}
@@ -12,10 +12,6 @@ use Rattle.resample.specs.Lengths.{wide-length}
 use borrow.Author.Needs.{needs}
 use Rattle.resample.proofs.up.keep.Statement.{statement}
 use Rattle.resample.proofs.up.keep.Tie as tie
-use Rattle.resample.proofs.up.keep.Reads as reads
-use Rattle.resample.proofs.up.keep.Lts as lts
-use Rattle.resample.proofs.rows.wide.Reads as wide-reads
-use Rattle.resample.proofs.up.wide_row.Reads as wide-row-reads
 
 mul-at : tie.Need-mul-at
 mul-at c = search needs

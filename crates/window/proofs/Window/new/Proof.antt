@@ -1,9 +1,6 @@
-use mathlib.Core.Path.{_∙_, sym, refl, ap}
-use mathlib.Core.Bool.{Bool, cond}
-use lib.Dec.{T}
-use lib.Ieee.Bits.{is-true}
+use mathlib.Core.Path.{_∙_, sym}
 use Rattle.float.specs.Base.{yes}
-use Rattle.window.specs.Window.{windowOf, hasWindow}
+use Rattle.window.specs.Window.{windowOf}
 use Rattle.window.specs.Range.{has-window}
 use borrow.Author.Needs.{needs}
 use Rattle.window.proofs.Window.new.Statement.{statement}

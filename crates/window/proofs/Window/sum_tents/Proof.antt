@@ -1,12 +1,11 @@
 -- After k numbers the sum is that of their positive tents.
 use mathlib.Core.Path.{_≡_, refl, _∙_, ap}
 use mathlib.Core.Logic.{⊎-elim}
-use Prim.Native.Nat.{ℕ, _-_, _^_, _≤_}
+use Prim.Native.Nat.{_-_, _^_, _≤_}
 use native.Mathlib.Omega.{arith}
 use lib.IntN.{ℤ, pos, _+ℤ_}
 use lib.Ieee.{ofBits}
 use mir.Syntax.{w64}
-use mir.Val.{toZ, ofZ}
 use mir.ValLaws.{toZ-ofZ}
 use Rattle.window.specs.Window.{sumOf, tentOf, numbers}
 use Rattle.window.specs.Signed.{small-fits, numbers-small}
@@ -14,11 +13,6 @@ use Rattle.window.specs.Steps.{passed, sum-with, sum-without}
 use borrow.Author.Needs.{needs}
 use Rattle.window.proofs.Window.sum_tents.Statement.{statement}
 use Rattle.window.proofs.Window.sum_tents.Tie as tie
-use Rattle.window.proofs.Window.sum_tents.Reads as reads
-use Rattle.window.proofs.Window.sum_tents.Lts as lts
-use Rattle.window.proofs.Window.tent.Reads as tent-reads
-use Rattle.window.proofs.count.Reads as count-reads
-use Rattle.window.proofs.nth.Reads as nth-reads
 
 abbrev Inv-loop : tie.InvT-loop
 Inv-loop self first count sum₀ k₀ sum k = (k ≤ count) × (sum ≡ sumOf self k)
@@ -29,7 +23,7 @@ abbrev μ-loop : tie.MeasureT-loop
 count-requires : tie.Need-count-requires Inv-loop μ-loop
 count-requires c κs = search needs
 
-counted : (c : lts.After-count (count-reads.Asked, count-reads.Learnt, nth-reads.Asked, nth-reads.Learnt, tent-reads.Asked, tent-reads.Learnt) reads.Pre reads.Post Inv-loop μ-loop)
+counted : (c : tie.After-count Inv-loop μ-loop)
     → c .count .result ≡ numbers (c .before .before .before .args .self .first) (c .before .before .before .args .self .last)
 counted c =
     let w = c .before .before .before .args .self in
@@ -40,7 +34,7 @@ loop-holds : tie.Need-loop-holds Inv-loop μ-loop
 unfolding sumOf ofBits
 loop-holds c = (omega arith, refl)
 
-small-k : (c : lts.In-loop (count-reads.Asked, count-reads.Learnt, nth-reads.Asked, nth-reads.Learnt, tent-reads.Asked, tent-reads.Learnt) reads.Pre reads.Post Inv-loop μ-loop) → c .before .loop .k ≤ 2 ^ 32
+small-k : (c : tie.In-loop Inv-loop μ-loop) → c .before .loop .k ≤ 2 ^ 32
 small-k c =
     let w = c .before .before .before .before .before .args .self in
     let small = c .before .before .before .before .before .pre in
@@ -55,7 +49,7 @@ nth-requires c κs =
 tent-requires : tie.Need-tent-requires Inv-loop μ-loop
 tent-requires c κs = search needs
 
-is-tent : (c : lts.After-tent (count-reads.Asked, count-reads.Learnt, nth-reads.Asked, nth-reads.Learnt, tent-reads.Asked, tent-reads.Learnt) reads.Pre reads.Post Inv-loop μ-loop)
+is-tent : (c : tie.After-tent Inv-loop μ-loop)
     → c .tent .result ≡ tentOf (c .before .before .before .before .before .before .before .args .self) (c .before .before .before .before .before .before .before .args .self .first +ℤ pos (c .before .before .before .loop .k))
 is-tent c =
     let w = c .before .before .before .before .before .before .before .args .self in

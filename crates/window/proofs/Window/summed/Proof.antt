@@ -5,9 +5,6 @@ use Rattle.window.specs.Signed.{small-fits}
 use borrow.Author.Needs.{needs}
 use Rattle.window.proofs.Window.summed.Statement.{statement}
 use Rattle.window.proofs.Window.summed.Tie as tie
-use Rattle.window.proofs.Window.summed.Reads as reads
-use Rattle.window.proofs.Window.summed.Lts as lts
-use Rattle.window.proofs.Window.sum_tents.Reads as sum-tents-reads
 
 sum-tents-requires : tie.Need-sum-tents-requires
 sum-tents-requires c κs = search needs

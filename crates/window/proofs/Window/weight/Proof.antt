@@ -5,12 +5,8 @@ use mir.Syntax.{w64}
 use mir.ValLaws.{toZ-ofZ}
 use Rattle.window.specs.Window.{tentOf, weightOf}
 use borrow.Author.Needs.{needs}
-use Rattle.float.proofs.narrow_f64.Reads as narrow-f64-reads
-use Rattle.window.proofs.Window.tent.Reads as tent-reads
 use Rattle.window.proofs.Window.weight.Statement.{statement}
 use Rattle.window.proofs.Window.weight.Tie as tie
-use Rattle.window.proofs.Window.weight.Reads as reads
-use Rattle.window.proofs.Window.weight.Lts as lts
 
 tent-requires : tie.Need-tent-requires
 tent-requires c κs = search needs
@@ -21,7 +17,7 @@ narrow-f64-requires c κs = search needs
 narrow-f64-requires-2 : tie.Need-narrow-f64-requires-2
 narrow-f64-requires-2 c κs = search needs
 
-is-tent : (c : lts.After-tent (tent-reads.Asked, tent-reads.Learnt, narrow-f64-reads.Asked, narrow-f64-reads.Learnt) reads.Pre reads.Post) → c .tent .result ≡ tentOf (c .before .args .self) (c .before .args .j)
+is-tent : (c : tie.After-tent) → c .tent .result ≡ tentOf (c .before .args .self) (c .before .args .j)
 is-tent c = c .tent .ensures ∙ ap (λ (z : ℤ). tentOf (c .before .args .self) z) (toZ-ofZ w64 (c .before .args .j) (c .before .fits .j))
 
 returns : tie.Need-returns
