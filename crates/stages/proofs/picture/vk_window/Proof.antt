@@ -1,0 +1,25 @@
+-- The struct taken apart, field by field; its numbers are small (`first-small`, `last-small`) and so pass as `i64`. Assumes nothing.
+use borrow.Author.Needs.{needs}
+use mathlib.Core.Path.{sym, ap, subst}
+use mir.Syntax.{w64}
+use mir.ValLaws.{toZ-ofZ}
+use Rattle.window.specs.Range.{first-small, last-small}
+use Rattle.window.specs.Signed.{small-fits}
+use Rattle.window.specs.Taps.{Small}
+use Rattle.stages.specs.Pictures.{numbersOf, partsOf}
+use Rattle.stages.proofs.picture.vk_window.Statement.{statement}
+use Rattle.stages.proofs.picture.vk_window.Tie as tie
+
+new-requires : tie.Need-new-requires
+new-requires c κs = search needs
+
+returns : tie.Need-returns
+returns c =
+    let made = c .before .before .before in
+    let a = made .before .args in
+    let w = made .new .result in
+    let small : Small w = subst Small (sym (made .new .ensures)) (first-small (a .src) (a .dst) (a .i), last-small (a .src) (a .dst) (a .i)) in
+    (rw (toZ-ofZ w64 (w .first) (small-fits (w .first) (small .0)), toZ-ofZ w64 (w .last) (small-fits (w .last) (small .1))) (ap numbersOf (made .new .ensures)), ap partsOf (made .new .ensures))
+
+pub vk-window-spec : {M : Type 1} → statement M
+vk-window-spec = tie.close (tie.spec new-requires returns)
