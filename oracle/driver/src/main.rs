@@ -10,10 +10,12 @@ mod float;
 mod layout;
 mod lent;
 mod ours;
+mod plane;
 mod record;
 mod sweep;
 mod tally;
 mod utf8;
+mod window;
 
 use std::process::ExitCode;
 
@@ -23,7 +25,7 @@ use tally::Tally;
 type Stage = fn(&mut Random, u64) -> Tally;
 
 /// The stages in the order of the crates.
-const STAGES: [(&str, Stage); 8] = [
+const STAGES: [(&str, Stage); 10] = [
     ("float", float::compare),
     ("crc32", crc32::compare),
     ("chacha20", chacha20::compare),
@@ -32,10 +34,12 @@ const STAGES: [(&str, Stage); 8] = [
     ("layout", layout::compare),
     ("convolution", convolution::compare),
     ("block", block::compare),
+    ("window", window::compare),
+    ("plane", plane::compare),
 ];
 
 /// The stages whose comparison comes with their crate.
-const LATER: [&str; 3] = ["resample", "resilient", "votes"];
+const LATER: [&str; 3] = ["change", "resilient", "votes"];
 
 fn compare(seed: u64, scale: u64) -> Tally {
     let mut total = Tally::default();

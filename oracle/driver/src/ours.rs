@@ -78,6 +78,13 @@ ours! {
     vk_encode(&[u8; 46], &mut [u8; 748]);
     // The votes, and the record; the metric with which state 0 ended.
     vk_decode(&[f32; 748], &mut [u8; 46]) -> f32;
+
+    // Source size, output size, output number; first and last source number; centre, support and sum.
+    vk_window(usize, usize, usize, &mut [i64; 2], &mut [f64; 3]);
+    // The same and a source number; whether it has a weight, and the weight or 0.
+    vk_weight(usize, usize, usize, i64, &mut f32) -> bool;
+    // Samples, width, height, channels, and the plane; whether they are a picture's.
+    vk_plane(*const u8, usize, usize, usize, usize, *mut f32, usize) -> bool;
 }
 
 /// The functions that the archive has and that are not compared.

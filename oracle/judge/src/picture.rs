@@ -23,14 +23,17 @@ pub enum Kind {
     Checkers,
     /// Every sample by chance.
     Noise,
+    /// Every sample 0 or 255, by chance.
+    Extremes,
 }
 
-pub const KINDS: [(&str, Kind); 5] = [
+pub const KINDS: [(&str, Kind); 6] = [
     ("flat", Kind::Flat),
     ("grain", Kind::Grain),
     ("gradient", Kind::Gradient),
     ("checkers", Kind::Checkers),
     ("noise", Kind::Noise),
+    ("extremes", Kind::Extremes),
 ];
 
 /// The samples of a picture, the same for the same seed. A fourth channel is by chance.
@@ -59,5 +62,6 @@ fn colour(kind: Kind, picture: Picture, x: usize, y: usize, random: &mut Random)
         Kind::Gradient => ((x + y) * 255 / (picture.width + picture.height)) as u8,
         Kind::Checkers => 255 * ((x / 8 + y / 8) % 2) as u8,
         Kind::Noise => random.next_u64() as u8,
+        Kind::Extremes => 255 * random.below(2) as u8,
     }
 }
