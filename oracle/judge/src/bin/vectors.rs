@@ -5,6 +5,7 @@
 use std::fs;
 use std::path::Path;
 
+use judge::picture::{KINDS, Picture, samples};
 use judge::random::Random;
 use judge::soft::{damaged, sure, votes};
 use judge::{crc32, edges, hex, records, shuffles, stages, texts};
@@ -401,6 +402,102 @@ fn block_lists() -> Vec<List> {
     ]
 }
 
+/// Sizes on both sides of the plane's, the least and the most, and some by chance: source, output, output number.
+fn windows() -> Vec<(usize, usize, usize)> {
+    let sides = [1, 2, 3, 5, 7, 100, 255, 256, 257, 511, 512, 513, 1_000, 4_096, 8_191, 8_192];
+    let mut pairs: Vec<(usize, usize)> = sides.iter().map(|&side| (side, 256)).collect();
+    pairs.extend(sides.iter().filter(|&&side| side > 256).map(|&side| (256, side)));
+    let mut random = Random::new(256);
+    pairs.extend((0..20).map(|_| (1 + random.below(8_192) as usize, 256)));
+    pairs.extend((0..20).map(|_| (256, 512 + random.below(7_681) as usize)));
+    let mut windows = Vec::new();
+    for (src, dst) in pairs {
+        let any = random.below(dst as u64) as usize;
+        windows.extend([0, 1, any, dst - 1].map(|i| (src, dst, i)));
+    }
+    windows
+}
+
+fn window(&(src, dst, i): &(usize, usize, usize)) -> String {
+    let window = stages::window(src, dst, i);
+    let parts =
+        [window.first as f64, window.last as f64, window.center, window.support, window.sum];
+    format!("{src:04x}{dst:04x}{i:04x} {}", parts.map(double).concat())
+}
+
+/// The first and the last number and their neighbours, and some between.
+fn weights(&(src, dst, i): &(usize, usize, usize)) -> Vec<String> {
+    let around = stages::weights_around(src, dst, i);
+    let last = around.len() - 1;
+    let mut places = vec![0, 1, last / 2, last - 1, last];
+    places.dedup();
+    let line = |place: usize| {
+        let (j, weight) = around[place];
+        let found = u8::from(weight.is_some());
+        let weight = single(weight.unwrap_or(0.0));
+        format!("{src:04x}{dst:04x}{i:04x}{} {found:02x}{weight}", double(j as f64))
+    };
+    places.into_iter().map(line).collect()
+}
+
+/// 64 values of the plane of a small picture.
+fn plane_part(case: usize, width: usize, height: usize) -> String {
+    let picture = Picture { width, height, channels: 3 + case % 2 };
+    let place = 64 * ((case * 389 + 1_023 * (case % 3)) % 1_024);
+    let (_, kind) = KINDS[case % KINDS.len()];
+    let bytes = samples(kind, picture, case as u64);
+    let plane = stages::plane(&bytes, picture.channels, width, height);
+    let channels = picture.channels;
+    let operand =
+        format!("{width:04x}{height:04x}{channels:02x}{place:04x}{}", hex::of_bytes(&bytes));
+    format!("{operand} {}", floats(&plane[place..place + 64]))
+}
+
+/// Sides of 1 to 9, and sides about the plane's beside short ones.
+fn plane_parts() -> Vec<String> {
+    let small = (1..10).flat_map(|width| (1..10).map(move |height| (width, height)));
+    let long = [
+        (255, 1),
+        (256, 1),
+        (257, 1),
+        (1, 255),
+        (1, 256),
+        (1, 257),
+        (256, 2),
+        (2, 257),
+        (255, 3),
+        (3, 256),
+        (257, 3),
+        (512, 2),
+    ];
+    let pictures = small.chain(long).enumerate();
+    pictures.map(|(case, (width, height))| plane_part(case, width, height)).collect()
+}
+
+fn resample_lists() -> Vec<List> {
+    let list = |name, about, lines| List { program: "replay_resample", name, about, lines };
+    let windows = windows();
+    vec![
+        list(
+            "window",
+            "source size, output size and output number, two bytes each; first and last source number,\n\
+             centre, support and sum, each as f64.",
+            windows.iter().map(window).collect(),
+        ),
+        list(
+            "weight",
+            "the same and a source number, as f64; 1 and its weight, f32, or zeros where it has none.",
+            windows.iter().flat_map(weights).collect(),
+        ),
+        list(
+            "plane",
+            "width and height, two bytes each, channels, a place in the plane, two bytes, and the samples;\n\
+             64 values of the plane from this place on, f32.",
+            plane_parts(),
+        ),
+    ]
+}
+
 fn record_lists() -> Vec<List> {
     let list = |name, about, lines| List { program: "replay_record", name, about, lines };
     vec![
@@ -431,6 +528,7 @@ fn main() -> std::io::Result<()> {
     lists.extend(layout_lists());
     lists.extend(convolution_lists());
     lists.extend(block_lists());
+    lists.extend(resample_lists());
     for list in lists {
         list.write(Path::new(folder), rustc)?;
     }

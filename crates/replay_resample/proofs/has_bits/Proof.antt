@@ -1,0 +1,20 @@
+-- A value that equals itself is no NaN, so it has one pattern. Assumes nothing.
+use borrow.Author.Needs.{needs}
+use Rattle.float.specs.Choice.{equals-itself}
+use Rattle.replay_resample.proofs.has_bits.Statement.{statement}
+use Rattle.replay_resample.proofs.has_bits.Tie as tie
+
+returns : tie.Need-returns
+returns c = search needs
+
+float-to-bits-widest : tie.Need-float-to-bits-widest
+float-to-bits-widest c = equals-itself (c .before .args .x) (c .if1 .left)
+
+widest-requires : tie.Need-widest-requires
+widest-requires c κs = search needs
+
+returns-2 : tie.Need-returns-2
+returns-2 c = search needs
+
+pub has-bits-spec : {M : Type 1} → statement M
+has-bits-spec = tie.close (tie.spec returns float-to-bits-widest widest-requires returns-2)

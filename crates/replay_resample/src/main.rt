@@ -1,0 +1,227 @@
+// Replays the Rust's stored answers for the crates `window` and `resample`: windows, the weights of source numbers, and
+// parts of the planes of small pictures. A case is two strings of bytes, the operand and the result, in which a number has
+// its high byte first; floats stand by their bits, and whole numbers that have a sign as f64.
+use lists::Field;
+use std::num::nearest_i64_to_f64;
+use window::Weight;
+use window::Window;
+ghost use Prim.Native.Nat.{_+_, _^_, _≤_, _<_};
+ghost use mathlib.Core.Path.{_≡_};
+ghost use lib.ListN.{length};
+ghost use Rattle.lists.specs.Fields.{Within};
+
+enum Stage {
+    Window,
+    Weight,
+    Plane,
+}
+
+fn wide(byte: u8) -> u64
+    ensures { λ r. ⌜ r < 256 ⌝ }
+{
+    byte as u64
+}
+
+fn pair(high: u8, low: u8) -> u64
+    ensures { λ r. ⌜ r < 65536 ⌝ }
+{
+    wide(high) * 256 + wide(low)
+}
+
+fn word(raw: &[u8], at: usize) -> u64
+    requires { ⌜ at + 4 ≤ length (now raw) ⌝ }
+    ensures { λ r. ⌜ r < 2 ^ 32 ⌝ }
+{
+    pair(raw[at], raw[at + 1]) * 65536 + pair(raw[at + 2], raw[at + 3])
+}
+
+fn number(raw: &[u8], at: usize) -> u64
+    requires { ⌜ at + 8 ≤ length (now raw) ⌝ }
+{
+    word(raw, at) * 0x1_0000_0000 + word(raw, at + 4)
+}
+
+fn f64_of(bits: u64) -> f64 {
+    let size = bits % 0x8000_0000_0000_0000;
+    if 0x7ff0_0000_0000_0000 < size {
+        return 0.0 / 0.0;
+    }
+    f64::from_bits(bits)
+}
+
+// No NaN is stored.
+fn has_bits_f64(x: f64, bits: u64) -> bool {
+    if x != x {
+        return false;
+    }
+    f64::to_bits(x) == bits
+}
+
+fn widest(bits: u32) -> u64 {
+    bits as u64
+}
+
+fn has_bits(x: f32, bits: u64) -> bool {
+    if x != x {
+        return false;
+    }
+    widest(f32::to_bits(x)) == bits
+}
+
+// The window of a source size, an output size and an output number.
+fn window_of(raw: &[u8]) -> Window
+    requires { ⌜ 6 ≤ length (now raw) ⌝ }
+{
+    let src = pair(raw[0], raw[1]) as usize;
+    let dst = pair(raw[2], raw[3]) as usize;
+    let i = pair(raw[4], raw[5]) as usize;
+    Window::new(src, dst, i)
+}
+
+// First and last number, centre, support and sum.
+fn is_window(raw: &[u8], expected: &[u8]) -> bool
+    requires { ⌜ (6 ≤ length (now raw)) × (40 ≤ length (now expected)) ⌝ }
+{
+    let w = window_of(raw);
+    has_bits_f64(nearest_i64_to_f64(w.first), number(expected, 0))
+        && has_bits_f64(nearest_i64_to_f64(w.last), number(expected, 8))
+        && has_bits_f64(w.center, number(expected, 16))
+        && has_bits_f64(w.support, number(expected, 24))
+        && has_bits_f64(w.sum, number(expected, 32))
+}
+
+// A window and a number; 1 and the weight, or zeros.
+fn is_weight(raw: &[u8], expected: &[u8]) -> bool
+    requires { ⌜ (14 ≤ length (now raw)) × (5 ≤ length (now expected)) ⌝ }
+{
+    let j = float::floor_f64_to_i64(f64_of(number(raw, 6)));
+    match window_of(raw).weight(j) {
+        Weight::Of(q) => expected[0] == 1 && has_bits(q, word(expected, 1)),
+        Weight::Nothing => expected[0] == 0 && word(expected, 1) == 0,
+    }
+}
+
+fn room() -> [f32; 65536]
+    ensures { λ r. ⌜ 65536 ≡ length r ⌝ }
+{
+    [0.0; 65536]
+}
+
+// The plane of samples, where they are as many as the picture has.
+fn full_plane(
+    samples: &[u8],
+    width: usize,
+    height: usize,
+    channels: usize,
+    plane: &mut [f32],
+) -> bool
+    requires { ⌜ (0 < width) × (width ≤ 8192) × (0 < height) × (height ≤ 8192) × (3 ≤ channels) × (channels ≤ 4) × (length (now plane) ≡ 65536) ⌝ }
+{
+    if samples.len() != width * channels * height {
+        return false;
+    }
+    resample::down::plane(samples, width, height, channels, plane);
+    true
+}
+
+fn made_plane(
+    samples: &[u8],
+    width: usize,
+    height: usize,
+    channels: usize,
+    plane: &mut [f32],
+) -> bool
+    requires { ⌜ length (now plane) ≡ 65536 ⌝ }
+{
+    if 0 < width
+        && width <= 8192
+        && 0 < height
+        && height <= 8192
+        && 3 <= channels
+        && channels <= 4
+    {
+        return full_plane(samples, width, height, channels, plane);
+    }
+    false
+}
+
+fn same(values: &[f32], raw: &[u8]) -> bool
+    requires { ⌜ (64 ≤ length (now values)) × (256 ≤ length (now raw)) ⌝ }
+{
+    for i in 0..64usize {
+        if !has_bits(values[i], word(raw, 4 * i)) {
+            return false;
+        }
+    }
+    true
+}
+
+// Width, height, channels, a place in the plane, and the samples; the 64 values of the plane from this place on.
+fn is_part(raw: &[u8], count: usize, expected: &[u8]) -> bool
+    requires { ⌜ (7 ≤ length (now raw)) × (256 ≤ length (now expected)) ⌝ }
+{
+    let width = pair(raw[0], raw[1]) as usize;
+    let height = pair(raw[2], raw[3]) as usize;
+    let channels = wide(raw[4]) as usize;
+    let place = pair(raw[5], raw[6]) as usize;
+    if count < 7 || raw.len() < count {
+        return false;
+    }
+    if 65472 < place {
+        return false;
+    }
+    let end = place + 64;
+    let mut plane = room();
+    made_plane(&raw[7..count], width, height, channels, &mut plane)
+        && same(&plane[place..end], expected)
+}
+
+fn agrees(text: &[u8], stage: Stage, operand: Field, result: Field) -> bool
+    requires { ⌜ Within (now text) operand × Within (now text) result ⌝ }
+{
+    let mut raw = [0u8; 4096];
+    let mut expected = [0u8; 256];
+    let one = lists::hex_bytes(text, operand, &mut raw);
+    let other = lists::hex_bytes(text, result, &mut expected);
+    if !(one.good && other.good) {
+        return false;
+    }
+    let from = one.count;
+    let to = other.count;
+    match stage {
+        Stage::Window => from == 6 && to == 40 && is_window(&raw, &expected),
+        Stage::Weight => from == 14 && to == 5 && is_weight(&raw, &expected),
+        Stage::Plane => to == 256 && is_part(&raw, from, &expected),
+    }
+}
+
+fn replay(text: &[u8], name: &[u8], stage: Stage) {
+    let mut compared: u64 = 0;
+    let mut different: u64 = 0;
+    let mut at = 0;
+    while at < text.len() {
+        let operand = lists::next(text, at);
+        let result = lists::next(text, operand.end);
+        at = result.end;
+        if operand.start < operand.end {
+            compared += 1;
+            if !agrees(text, stage, operand, result) {
+                different += 1;
+            }
+        }
+    }
+    lists::report(name, compared, different);
+}
+
+// The list in the file `name`.
+fn list(name: &[u8], stage: Stage) {
+    let mut text = lists::room();
+    let count = lists::load(name, &mut text);
+    replay(&text[..count], name, stage);
+}
+
+fn main() {
+    list(b"window.txt", Stage::Window);
+    list(b"weight.txt", Stage::Weight);
+    list(b"plane.txt", Stage::Plane);
+}
