@@ -21,6 +21,15 @@ unsafe extern "C" {
     fn vk_there_and_back(plane: &mut [f32; 65536]);
     fn vk_encode(record: &[u8; 46], coded: &mut [u8; 748]);
     fn vk_decode(soft: &[f32; 748], record: &mut [u8; 46]) -> f32;
+    fn vk_plane(
+        samples: *const u8,
+        len: usize,
+        width: usize,
+        height: usize,
+        channels: usize,
+        plane: *mut f32,
+        plane_len: usize,
+    ) -> bool;
 }
 
 /// Runs the two in turn and prints the medians in milliseconds and their ratio.
@@ -184,6 +193,23 @@ fn transforms(runs: usize) {
     assert_eq!(ours, rust);
 }
 
+/// A square picture of three channels to the plane.
+fn planes(runs: usize, side: usize) {
+    let samples = Random::new(7).bytes(side * side * 3);
+    let (mut ours, mut rust) = (vec![0.0; 65_536], Vec::new());
+    row_of_bytes(
+        &format!("samples to plane, {side} x {side}"),
+        samples.len(),
+        runs,
+        || {
+            let (from, to) = (samples.as_ptr(), ours.as_mut_ptr());
+            assert!(unsafe { vk_plane(from, samples.len(), side, side, 3, to, 65_536) });
+        },
+        || rust = stages::plane(&samples, 3, side, side),
+    );
+    assert_eq!(ours, rust);
+}
+
 fn main() {
     let runs = std::env::args().nth(1).map_or(15, |runs| runs.parse().expect("a number of runs"));
     print!("{:<40} {:>10} {:>10} {:>8}", "stage", "ours ms", "Rust ms", "ratio");
@@ -196,4 +222,7 @@ fn main() {
     encoder(runs);
     decoder(runs);
     transforms(runs);
+    planes(runs, 512);
+    planes(runs, 2_048);
+    planes(runs.div_ceil(3), 8_192);
 }
