@@ -13,9 +13,9 @@ use Rattle.stages.proofs.picture.vk_plane.Statement.{statement}
 use Rattle.stages.proofs.picture.vk_plane.Tie as tie
 
 module _ (width height channels : ℕ) (samples : List ℕ) (plane : List Float) where
-  has : hasPlane width height channels (length samples) (length plane) ≡ true → planeOf width height channels samples ≡ planeInto width height channels samples plane
+  has : hasPlane width height channels (length samples) (length plane) ≡ true → (made : List Float) → made ≡ planeOf width height channels samples → made ≡ planeInto width height channels samples plane
   unfolding planeInto
-  has e = sym (ap (λ (t : Bool). cond t (planeOf width height channels samples) plane) e)
+  has e made f = f ∙ sym (ap (λ (t : Bool). cond t (planeOf width height channels samples) plane) e)
 
   has-none : hasPlane width height channels (length samples) (length plane) ≡ false → plane ≡ planeInto width height channels samples plane
   unfolding planeInto
@@ -28,7 +28,7 @@ plane-requires : tie.Need-plane-requires
 plane-requires c κs =
     let tested = c .before .before in
     let start = tested .before .before .before .args in
-    let e = sym (tested .has-plane .ensures) ∙ c .before .if1 .taken in
+    let e : hasPlane (start .width) (start .height) (start .channels) (length (now (start .samples))) (length (now (start .plane))) ≡ true = rw (← tested .has-plane .ensures) (c .before .if1 .taken) in
     (plane-sized (start .width) (start .height) (start .channels) (now (start .samples)) (length (now (start .plane))) e, plane-room (start .width) (start .height) (start .channels) (now (start .samples)) (length (now (start .plane))) e)
 
 same-length : tie.Need-same-length
@@ -38,14 +38,15 @@ returns : tie.Need-returns
 returns c =
     let tested = c .before .before .before .before .before in
     let start = tested .before .before .before .args in
-    let e = sym (tested .has-plane .ensures) ∙ c .before .before .before .before .if1 .taken in
-    (tested .has-plane .ensures, c .before .before .plane .ensures ∙ has (start .width) (start .height) (start .channels) (now (start .samples)) (now (start .plane)) e)
+    let e : hasPlane (start .width) (start .height) (start .channels) (length (now (start .samples))) (length (now (start .plane))) ≡ true = rw (← tested .has-plane .ensures) (c .before .before .before .before .if1 .taken) in
+    (tested .has-plane .ensures, has (start .width) (start .height) (start .channels) (now (start .samples)) (now (start .plane)) e _ (c .before .before .plane .ensures))
 
 returns-2 : tie.Need-returns-2
 returns-2 c =
     let tested = c .before in
     let start = tested .before .before .before .args in
-    (tested .has-plane .ensures, has-none (start .width) (start .height) (start .channels) (now (start .samples)) (now (start .plane)) (sym (tested .has-plane .ensures) ∙ c .if1 .left))
+    let e : hasPlane (start .width) (start .height) (start .channels) (length (now (start .samples))) (length (now (start .plane))) ≡ false = rw (← tested .has-plane .ensures) (c .if1 .left) in
+    (tested .has-plane .ensures, has-none (start .width) (start .height) (start .channels) (now (start .samples)) (now (start .plane)) e)
 
 pub vk-plane-spec : {M : Type 1} → statement M
 vk-plane-spec =
