@@ -13,8 +13,8 @@ use Rattle.seq.specs.Tab.{tab, length-tab, tab-same}
 use Rattle.seq.specs.Lines.{lines, pasted, part-tab, lines-same, lines-more, pasted-none, pasted-more, length-pasted, pasted-other}
 use Rattle.seq.specs.Part.{onPart}
 use Rattle.seq.specs.Rows.{row-fits}
-use Rattle.resample.specs.Samples.{rowOf, changeRow, changedRow, changedOf}
-use Rattle.resample.specs.Pixels.{changedAt, length-row}
+use Rattle.resample.specs.Samples.{rowOf, changeRow, changedAt, changedRow, changedOf}
+use Rattle.resample.specs.Pixels.{length-row}
 
 -- ---- lines of w places, pasted one after another
 

@@ -1,4 +1,4 @@
--- Rows that are kept for use again, and the pictures that are resampled. Assumes nothing.
+-- Rows that are kept for use again. Assumes nothing.
 use mathlib.Core.Path.{_≡_, refl, sym, _∙_, ap, subst}
 use mathlib.Core.Logic.{_⊎_, inl, inr}
 use mathlib.Core.List.{List, _++_}
@@ -14,16 +14,6 @@ use Rattle.seq.specs.Tab.{tab-same}
 use Rattle.seq.specs.Lines.{part-tab}
 use Rattle.seq.specs.Part.{onPart, length-onPart, onPart-before, onPart-after}
 use Rattle.seq.specs.Rows.{row-fits}
-
--- a picture's sides, and as many samples
-pub record Sized (width height channels : ℕ) (samples : List ℕ) : Type 0 where
-  pub wide : 0 < width
-  pub width-most : width ≤ 8192
-  pub high : 0 < height
-  pub height-most : height ≤ 8192
-  pub three : 3 ≤ channels
-  pub four : channels ≤ 4
-  pub full : length samples ≡ width * channels * height
 
 -- `held` has, for each of the places, 0 or one more than the number of the row that stands there, n values from the place's first on
 pub record Kept (row : ℕ → List Float) (n stride places : ℕ) (held : List ℕ) (rows : List Float) : Type 0 where

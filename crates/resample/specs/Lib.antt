@@ -7,3 +7,4 @@ pub mod Pixels
 pub mod Sums
 pub mod Changed
 pub mod Finite
+pub mod Sheet

@@ -16,10 +16,9 @@ use lib.Ieee.Bits.{is-true, is-false}
 use Rattle.seq.specs.Tab.{tab, filled, length-tab, getD-tab, tab-same, filled-more, filled-all}
 use Rattle.seq.specs.Rows.{row-fits}
 use Rattle.float.specs.Calls.{roundedByte}
-use Rattle.resample.specs.Samples.{value, rowOf, lumaAt, narrowRow, wideRow, changedRow}
+use Rattle.resample.specs.Samples.{Sized, changedAt, value, rowOf, lumaAt, narrowRow, wideRow, changedRow}
 use Rattle.resample.specs.Resampled.{across}
 use Rattle.resample.specs.Tables.{across-same}
-use Rattle.resample.specs.Kept.{Sized}
 
 -- ---- a list whose first places are made by a function
 
@@ -70,10 +69,6 @@ unfolding wideRow
 widened n change k part out h e o = rw (e, length-row 256 change k h) at o
 
 -- ---- a row with the change of each pixel
-
--- sample p of it
-unfoldable pub changedAt : ℕ → (ℕ → Float) → List ℕ → ℕ → ℕ
-changedAt channels delta row p = cond (ltb (p % channels) 3) (roundedByte (add binary32 (value row p) (delta (p / channels)))) (getD row p 0)
 
 module _ (channels : ℕ) (delta : ℕ → Float) (d : List ℕ) (x k : ℕ) (less : k < channels) where
   channel : (x * channels + k) % channels ≡ k

@@ -1,7 +1,8 @@
 -- Pictures of 8-bit samples with 3 or 4 channels, and the plane of 256 x 256 luma values: from samples to the plane, and a change of the plane put onto samples. Definitions only.
+use mathlib.Core.Path.{_≡_}
 use mathlib.Core.Bool.{cond}
 use mathlib.Core.List.{List}
-use Prim.Native.Nat.{ℕ, _+_, _*_, _/_, _%_}
+use Prim.Native.Nat.{ℕ, _+_, _*_, _/_, _%_, _≤_, _<_}
 use lib.Dec.{ltb}
 use lib.IntN.{pos}
 use lib.ListN.{length, take, drop, getD}
@@ -9,7 +10,18 @@ use lib.Ieee.{Float, nan, binary32, ofBits, ofInt, add, mul}
 use Rattle.seq.specs.Tab.{tab}
 use Rattle.seq.specs.Lines.{lines}
 use Rattle.float.specs.Calls.{roundedByte}
+use Rattle.window.specs.Window.{longest}
 use Rattle.resample.specs.Resampled.{across, resampled}
+
+-- the sides and channels that a picture may have, and as many samples
+pub record Sized (width height channels : ℕ) (samples : List ℕ) : Type 0 where
+  pub wide : 0 < width
+  pub width-most : width ≤ longest
+  pub high : 0 < height
+  pub height-most : height ≤ longest
+  pub three : 3 ≤ channels
+  pub four : channels ≤ 4
+  pub full : length samples ≡ width * channels * height
 
 -- row y of rows of n values
 unfoldable pub rowOf : {A : Type 0} → ℕ → List A → ℕ → List A
@@ -47,9 +59,12 @@ wideRow width change k = tab (across 256 width (λ i. getD (rowOf 256 change k) 
 unfoldable pub changeRow : ℕ → ℕ → List Float → ℕ → List Float
 changeRow width height change y = tab (resampled 256 256 width height (λ k i. getD (rowOf 256 change k) i nan) y) width
 
--- the first three channels of each pixel with the pixel's change added, rounded and clamped; a fourth stays
+-- sample p of a row: in the first three channels of a pixel with the pixel's change added, rounded and clamped; a fourth stays
+unfoldable pub changedAt : ℕ → (ℕ → Float) → List ℕ → ℕ → ℕ
+changedAt channels delta row p = cond (ltb (p % channels) 3) (roundedByte (add binary32 (value row p) (delta (p / channels)))) (getD row p 0)
+
 unfoldable pub changedRow : ℕ → (ℕ → Float) → List ℕ → List ℕ
-changedRow channels delta row = tab (λ p. cond (ltb (p % channels) 3) (roundedByte (add binary32 (value row p) (delta (p / channels)))) (getD row p 0)) (length row)
+changedRow channels delta row = tab (changedAt channels delta row) (length row)
 
 unfoldable pub changedOf : ℕ → ℕ → ℕ → List Float → List ℕ → List ℕ
 changedOf width height channels change samples = lines (λ y. changedRow channels (λ x. getD (changeRow width height change y) x nan) (rowOf (width * channels) samples y)) height

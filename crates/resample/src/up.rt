@@ -1,4 +1,4 @@
-// From a change of the plane to the samples. A row of the picture reads two rows of the change, and the rows that
+// From a change of the plane to the samples. A row of the picture reads at most two rows of the change, and the rows that
 // follow the same two or the next: two rows, brought to the picture's width, are kept, row k in place k mod 2.
 ghost use mathlib.Core.Path.{_≡_};
 ghost use Prim.Native.Nat.{_+_, _*_, _%_, _<_, _≤_};
@@ -6,14 +6,14 @@ ghost use lib.ListN.{length, getD, take, drop};
 ghost use lib.IntN.{pos};
 ghost use lib.Ieee.{nan, binary32, add, ofInt};
 ghost use Rattle.float.specs.Calls.{roundedByte};
-ghost use Rattle.resample.specs.Samples.{wideRow, changeRow, changedRow, changedOf};
+ghost use Rattle.resample.specs.Samples.{Sized, wideRow, changeRow, changedRow, changedOf};
 ghost use mathlib.Core.List.{[]};
 ghost use Rattle.seq.specs.Tab.{tab};
 ghost use Rattle.window.specs.Window.{tapsOf};
 ghost use Rattle.window.specs.Taps.{Small};
 ghost use Rattle.resample.specs.Tables.{Tables, addedAt};
 ghost use Rattle.resample.specs.Sums.{sumRows};
-ghost use Rattle.resample.specs.Kept.{Kept, Sized};
+ghost use Rattle.resample.specs.Kept.{Kept};
 use crate::rows::add_row;
 use crate::rows::row_across;
 use crate::rows::wide;

@@ -13,8 +13,7 @@ use Rattle.window.specs.Window.{sized}
 use Rattle.window.specs.declared.Window.{Window}
 use Rattle.window.specs.declared.Weight.{Weight}
 use Rattle.window.specs.declared.Weight.the-variants.{Of, Nothing}
-use Rattle.resample.specs.Kept.{Sized}
-use Rattle.resample.specs.Samples.{planeOf}
+use Rattle.resample.specs.Samples.{Sized, planeOf}
 
 abbrev pub numbersOf : Window → List ℤ
 numbersOf w = w .first ∷ (w .last ∷ [])

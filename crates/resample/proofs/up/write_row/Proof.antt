@@ -7,7 +7,8 @@ use lib.ListN.{length, getD, length-set}
 use lib.Ieee.{nan}
 use denote.Ref.{now}
 use Rattle.seq.specs.Tab.{filled, filled-none}
-use Rattle.resample.specs.Pixels.{changedAt, pixel-fits, pixel-more, changed-all}
+use Rattle.resample.specs.Pixels.{pixel-fits, pixel-more, changed-all}
+use Rattle.resample.specs.Samples.{changedAt}
 use borrow.Author.Needs.{needs}
 use Rattle.resample.proofs.up.write_row.Statement.{statement}
 use Rattle.resample.proofs.up.write_row.Tie as tie
