@@ -145,7 +145,9 @@ pub mod stages {
     /// The source numbers of a window and one more on each side, and the weight of each that has one.
     pub fn weights_around(src: usize, dst: usize, i: usize) -> Vec<(i64, Option<f32>)> {
         let window = Window::new(src, dst, i);
-        (window.first - 1..=window.last + 1).map(|j| (j, window.weight(j))).collect()
+        (window.first - 1..=window.last + 1)
+            .map(|j| (j, window.weight(j)))
+            .collect()
     }
 
     /// A plane in another size.

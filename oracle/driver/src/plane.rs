@@ -19,7 +19,8 @@ const MIDDLE: u64 = 700;
 type Plane = unsafe extern "C" fn(*const u8, usize, usize, usize, usize, *mut f32, usize) -> bool;
 
 /// Sides that are tried with each other, each pair with one kind of picture.
-const SIDES: [usize; 15] = [1, 2, 3, 5, 7, 9, 64, 127, 255, 256, 257, 383, 511, 512, 513];
+const SIDES: [usize; 19] =
+    [1, 2, 3, 4, 5, 6, 7, 8, 9, 64, 127, 255, 256, 257, 383, 511, 512, 513, 1_021];
 
 /// Sides at the upper edge, and two large pictures.
 const LONG: [(usize, usize); 12] = [

@@ -24,7 +24,7 @@ impl Windows {
         Some(Self { window: ours::vk_window.function?, weight: ours::vk_weight.function? })
     }
 
-    /// The numbers of a window and the bits of its parts.
+    /// The numbers of a window and its parts.
     fn window(&self, src: usize, dst: usize, i: usize) -> ([i64; 2], [f64; 3]) {
         let (mut numbers, mut parts) = ([i64::MIN; 2], [f64::NAN; 3]);
         unsafe { (self.window)(src, dst, i, &mut numbers, &mut parts) };
