@@ -194,7 +194,8 @@ fn sound(bytes: &[u8]) -> bool
     utf8::well_formed(&bytes[TEXT..end])
 }
 
-fn not_read(r: Refusal) -> Reading
+// The reading of what is refused.
+pub fn not_read(r: Refusal) -> Reading
     ensures { λ b. ⌜ b ≡ readAs (Outcome.refused r) ⌝ }
 {
     Reading {

@@ -1,0 +1,71 @@
+-- Each test of the definition is one of the code, and behind them each call is a part of the definition. Assumes nothing.
+use borrow.Author.Needs.{needs}
+use borrow.Author.Tests.{eq-eqb, ne-eqb, lt-ltb, le-ltb}
+use native.Mathlib.Omega.{arith}
+use lib.ListN.{length}
+use denote.Ref.{now}
+use Rattle.convolution.specs.Demand3.{decodedFrom}
+use Rattle.resilient.specs.Resilient.{blocks, votesOutcome, votesReading}
+use Rattle.resilient.proofs.read_votes.Statement.{statement}
+use Rattle.resilient.proofs.read_votes.Tie as tie
+
+not-read-requires : tie.Need-not-read-requires
+not-read-requires c κs = search needs
+
+returns : tie.Need-returns
+unfolding votesReading votesOutcome
+returns c =
+    let votes = now (c .before .before .before .args .votes) in
+    rw (c .not-read .ensures, ne-eqb (length votes) blocks (c .before .if1 .taken))
+
+first-bad-requires : tie.Need-first-bad-requires
+first-bad-requires c κs = search needs
+
+not-read-requires-2 : tie.Need-not-read-requires-2
+not-read-requires-2 c κs = search needs
+
+returns-2 : tie.Need-returns-2
+unfolding votesReading votesOutcome
+returns-2 c =
+    let found = c .before .before in
+    let many = found .before in
+    let votes = now (many .before .before .args .votes) in
+    rw (c .not-read2 .ensures, ← found .first-bad .ensures, eq-eqb (length votes) blocks (many .if1 .left), lt-ltb (found .first-bad .result) blocks (omega arith))
+
+every-block-requires : tie.Need-every-block-requires
+every-block-requires c κs = search needs
+
+gather-requires : tie.Need-gather-requires
+gather-requires c κs = search needs
+
+viterbi-requires : tie.Need-viterbi-requires
+viterbi-requires c κs = search needs
+
+parse-record-requires : tie.Need-parse-record-requires
+parse-record-requires c κs = search needs
+
+returns-3 : tie.Need-returns-3
+unfolding votesReading votesOutcome decodedFrom
+returns-3 c =
+    let decoded = c .before .before in
+    let gathered = decoded .before .before in
+    let all = gathered .before .before in
+    let found = all .before .before in
+    let many = found .before in
+    let votes = now (many .before .before .args .votes) in
+    rw (c .parse-record .ensures, decoded .viterbi .ensures, gathered .gather .ensures, all .every-block .ensures, ← found .first-bad .ensures, eq-eqb (length votes) blocks (many .if1 .left), le-ltb (found .first-bad .result) blocks (omega arith))
+
+pub read-votes-spec : {M : Type 1} → statement M
+read-votes-spec =
+    tie.close
+    (tie.spec
+    not-read-requires
+    returns
+    first-bad-requires
+    not-read-requires-2
+    returns-2
+    every-block-requires
+    gather-requires
+    viterbi-requires
+    parse-record-requires
+    returns-3)

@@ -1,0 +1,2 @@
+pub mod Resilient
+pub mod Theorems
