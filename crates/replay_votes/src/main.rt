@@ -1,0 +1,29 @@
+// The scope paper's run lines for the program `votes`, and others: the line for each stored input, by the function that the
+// program calls.
+fn file(path: &[u8]) {
+    let mut bytes = lists::room();
+    let count = lists::load(path, &mut bytes);
+    line::say(&bytes[..count]);
+}
+
+fn main() {
+    // No bytes, one too few and one too many, and votes of zero.
+    file(b"empty");
+    file(b"short");
+    file(b"long");
+    file(b"zeros");
+    // Vote 3 is a NaN, just above 1, minus infinity; votes 3 and 2 are bad; every vote is 1 or -1.
+    file(b"nan");
+    file(b"above");
+    file(b"infinite");
+    file(b"two_bad");
+    file(b"ends");
+    // A mark, nine of its votes made zero, four reversed and one zero; one without text; one under a key.
+    file(b"mark");
+    file(b"nine_zeroed");
+    file(b"four_reversed");
+    file(b"no_text");
+    file(b"keyed");
+    // The limit of demand 3: the zero record.
+    file(b"limit");
+}
