@@ -166,6 +166,22 @@ pub mod stages {
         super::resample(&super::luma(samples, channels), width, height, SIZE, SIZE)
     }
 
+    /// A change of the plane put onto a picture's samples. `mark` has no function for it: the loop below is its own, repeated.
+    pub fn change(
+        samples: &mut [u8],
+        channels: usize,
+        width: usize,
+        height: usize,
+        change: &[f32],
+    ) {
+        let upsampled = super::resample(change, SIZE, SIZE, width, height);
+        for (pixel, delta) in samples.chunks_exact_mut(channels).zip(upsampled) {
+            for sample in &mut pixel[..3] {
+                *sample = (f32::from(*sample) + delta).round().clamp(0.0, 255.0) as u8;
+            }
+        }
+    }
+
     /// Marks a plane.
     pub fn embed_bits(plane: &mut [f32], bits: &[u8; BLOCKS]) {
         super::embed_bits(plane, bits);

@@ -30,6 +30,15 @@ unsafe extern "C" {
         plane: *mut f32,
         plane_len: usize,
     ) -> bool;
+    fn vk_change(
+        change: *const f32,
+        change_len: usize,
+        width: usize,
+        height: usize,
+        channels: usize,
+        samples: *mut u8,
+        len: usize,
+    ) -> bool;
 }
 
 /// Runs the two in turn and prints the medians in milliseconds and their ratio.
@@ -210,6 +219,26 @@ fn planes(runs: usize, side: usize) {
     assert_eq!(ours, rust);
 }
 
+/// A small change put onto a square picture of three channels, again in each run.
+fn changes(runs: usize, side: usize) {
+    let mut random = Random::new(8);
+    let change: Vec<f32> =
+        (0..65_536).map(|_| (random.below(16_001) as f32 - 8_000.0) / 1_000.0).collect();
+    let mut ours = random.bytes(side * side * 3);
+    let mut rust = ours.clone();
+    row_of_bytes(
+        &format!("change to samples, {side} x {side}"),
+        side * side * 3,
+        runs,
+        || {
+            let (from, to, len) = (change.as_ptr(), ours.as_mut_ptr(), ours.len());
+            assert!(unsafe { vk_change(from, change.len(), side, side, 3, to, len) });
+        },
+        || stages::change(&mut rust, 3, side, side, &change),
+    );
+    assert!(ours == rust, "change to samples, {side} x {side}");
+}
+
 fn main() {
     let runs = std::env::args().nth(1).map_or(15, |runs| runs.parse().expect("a number of runs"));
     print!("{:<40} {:>10} {:>10} {:>8}", "stage", "ours ms", "Rust ms", "ratio");
@@ -225,4 +254,7 @@ fn main() {
     planes(runs, 512);
     planes(runs, 2_048);
     planes(runs.div_ceil(3), 8_192);
+    changes(runs, 512);
+    changes(runs, 2_048);
+    changes(runs.div_ceil(3), 8_192);
 }

@@ -1,4 +1,4 @@
--- A window as two lists, its numbers and its parts, a weight as whether there is one and its value, and which pictures have a plane. Assumes nothing.
+-- A window as two lists, its numbers and its parts, a weight as whether there is one and its value, which pictures have a plane, and which take a change of it. Assumes nothing.
 use mathlib.Core.Path.{_≡_, refl, sym, subst}
 use mathlib.Core.Bool.{Bool, true, false, cond, _&&_, false≢true}
 use mathlib.Core.List.{List, [], _∷_}
@@ -13,7 +13,7 @@ use Rattle.window.specs.Window.{sized}
 use Rattle.window.specs.declared.Window.{Window}
 use Rattle.window.specs.declared.Weight.{Weight}
 use Rattle.window.specs.declared.Weight.the-variants.{Of, Nothing}
-use Rattle.resample.specs.Samples.{Sized, planeOf}
+use Rattle.resample.specs.Samples.{Sized, planeOf, changedOf}
 
 abbrev pub numbersOf : Window → List ℤ
 numbersOf w = w .first ∷ (w .last ∷ [])
@@ -39,6 +39,13 @@ hasPlane width height channels samples plane = hasSides width height channels &&
 
 unfoldable pub planeInto : ℕ → ℕ → ℕ → List ℕ → List Float → List Float
 planeInto width height channels samples plane = cond (hasPlane width height channels (length samples) (length plane)) (planeOf width height channels samples) plane
+
+-- of a change of so many values, so many samples
+abbrev pub hasChange : ℕ → ℕ → ℕ → ℕ → ℕ → Bool
+hasChange width height channels change samples = leb 256 width && (leb 256 height && hasPlane width height channels samples change)
+
+unfoldable pub changeInto : ℕ → ℕ → ℕ → List Float → List ℕ → List ℕ
+changeInto width height channels change samples = cond (hasChange width height channels (length change) (length samples)) (changedOf width height channels change samples) samples
 
 -- ---- what the tests give
 
@@ -86,3 +93,15 @@ module _ (width height channels : ℕ) (samples : List ℕ) (plane : ℕ) (e : h
 
   pub plane-room : plane ≡ 65536
   plane-room = eqb→eq plane 65536 (subst T (sym (lengths .0)) tt)
+
+module _ (width height channels change : ℕ) (samples : List ℕ) (e : hasChange width height channels change (length samples) ≡ true) where
+  no-narrower : (leb 256 width ≡ true) × (leb 256 height && hasPlane width height channels (length samples) change ≡ true)
+  no-narrower = both (leb 256 width) _ e
+
+  no-lower : (leb 256 height ≡ true) × (hasPlane width height channels (length samples) change ≡ true)
+  no-lower = both (leb 256 height) _ (no-narrower .1)
+
+  pub change-fits : Sized width height channels samples × (256 ≤ width) × (256 ≤ height) × (change ≡ 65536)
+  change-fits =
+      let picture = no-lower .1 in
+      (plane-sized width height channels samples change picture, leb→le 256 width (subst T (sym (no-narrower .0)) tt), leb→le 256 height (subst T (sym (no-lower .0)) tt), plane-room width height channels samples change picture)

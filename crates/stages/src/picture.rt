@@ -5,7 +5,7 @@ ghost use mathlib.Core.Path.{_≡_};
 ghost use Prim.Native.Nat.{_*_};
 ghost use lib.ListN.{length};
 ghost use Rattle.window.specs.Window.{sized, windowOf, weightOf};
-ghost use Rattle.stages.specs.Pictures.{numbersOf, partsOf, reached, weightValue, hasSides, hasPlane, planeInto};
+ghost use Rattle.stages.specs.Pictures.{numbersOf, partsOf, reached, weightValue, hasSides, hasPlane, planeInto, hasChange, changeInto};
 
 // The first and the last source number; centre, support and sum.
 #[no_mangle]
@@ -102,6 +102,39 @@ pub extern "C" fn vk_plane(
     let done = has_plane(width, height, channels, samples.len(), plane.len());
     if done {
         resample::down::plane(samples, width, height, channels, plane);
+    }
+    done
+}
+
+fn has_change(width: usize, height: usize, channels: usize, change: usize, samples: usize) -> bool
+    ensures { λ r. ⌜ r ≡ hasChange width height channels change samples ⌝ }
+{
+    if 256 <= width {
+        if 256 <= height {
+            has_plane(width, height, channels, samples, change)
+        } else {
+            false
+        }
+    } else {
+        false
+    }
+}
+
+// Whether the samples are those of a picture no smaller than the plane and the change is a plane's, which is then put onto them.
+#[no_mangle]
+pub extern "C" fn vk_change(
+    change: &[f32],
+    width: usize,
+    height: usize,
+    channels: usize,
+    samples: &mut [u8],
+) -> bool
+    ensures answer { λ r. ⌜ r ≡ hasChange width height channels (length (now (change .entry))) (length (now (samples .entry))) ⌝ }
+    ensures lent { λ _. ⌜ now (samples .exit) ≡ changeInto width height channels (now (change .entry)) (now (samples .entry)) ⌝ }
+{
+    let done = has_change(width, height, channels, change.len(), samples.len());
+    if done {
+        resample::up::change_samples(change, width, height, channels, samples);
     }
     done
 }

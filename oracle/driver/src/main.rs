@@ -3,6 +3,7 @@
 
 mod block;
 mod chacha20;
+mod change;
 mod convolution;
 mod crc32;
 mod faults;
@@ -25,7 +26,7 @@ use tally::Tally;
 type Stage = fn(&mut Random, u64) -> Tally;
 
 /// The stages in the order of the crates.
-const STAGES: [(&str, Stage); 10] = [
+const STAGES: [(&str, Stage); 11] = [
     ("float", float::compare),
     ("crc32", crc32::compare),
     ("chacha20", chacha20::compare),
@@ -36,10 +37,11 @@ const STAGES: [(&str, Stage); 10] = [
     ("block", block::compare),
     ("window", window::compare),
     ("plane", plane::compare),
+    ("change", change::compare),
 ];
 
 /// The stages whose comparison comes with their crate.
-const LATER: [&str; 3] = ["change", "resilient", "votes"];
+const LATER: [&str; 2] = ["resilient", "votes"];
 
 fn compare(seed: u64, scale: u64) -> Tally {
     let mut total = Tally::default();

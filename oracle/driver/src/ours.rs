@@ -85,6 +85,8 @@ ours! {
     vk_weight(usize, usize, usize, i64, &mut f32) -> bool;
     // Samples, width, height, channels, and the plane; whether they are a picture's.
     vk_plane(*const u8, usize, usize, usize, usize, *mut f32, usize) -> bool;
+    // A change of the plane, width, height, channels, and the samples; whether they are those of a picture no smaller.
+    vk_change(*const f32, usize, usize, usize, usize, *mut u8, usize) -> bool;
 }
 
 /// The functions that the archive has and that are not compared.

@@ -88,7 +88,7 @@ pub fn compare(random: &mut Random, scale: u64) -> Tally {
     };
     compare_empty(&mut tally, &ours);
     let down = (1..=LONGEST).map(|src| (src, SIZE));
-    let up = (2 * SIZE..=LONGEST).map(|dst| (SIZE, dst));
+    let up = (SIZE..=LONGEST).map(|dst| (SIZE, dst));
     for (src, dst) in down.chain(up) {
         let mut places = vec![0, 1, dst / 2, dst - 2, dst - 1];
         places.extend((0..scale * RANDOM).map(|_| random.below(dst as u64) as usize));
