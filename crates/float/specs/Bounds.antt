@@ -50,7 +50,7 @@ round-shape f s n d =
 
 -- ---- from a value's fraction to a bound, and from one bound to a larger one
 
-value-within : (x : Float) (s : Bool) (g l a c : ℕ) → 0 < l → HasValue x s g l → g * c ≤ a * l → Within x a c
+pub value-within : (x : Float) (s : Bool) (g l a c : ℕ) → 0 < l → HasValue x s g l → g * c ≤ a * l → Within x a c
 value-within nan s g l a c L h k = h
 value-within (inf t) s g l a c L h k = h
 value-within (fin t m e) s g l a c L h k =

@@ -1,2 +1,4 @@
+pub mod Sized
 pub mod Resilient
+pub mod Left
 pub mod Theorems

@@ -1,11 +1,119 @@
-// The mark as a whole: its text from the votes of the picture's blocks. For the archive's indexer, and the
-// crate that knows the order in which reading refuses; from the scope paper, which specs/Resilient.antt is.
+// The mark as a whole: a text written into a picture's samples, read from them, and read from the votes of the
+// picture's blocks. For the archive, its indexer and the crates that offer this to them; the one place that knows the
+// order in which writing and reading refuse. From the scope paper, which specs/Resilient.antt is.
+use picture::Picture;
+use record::Answer;
 use record::Key;
+use record::Lock;
 use record::Reading;
 use refusal::Refusal;
 ghost use mathlib.Core.Path.{_≡_};
+ghost use Prim.Native.Nat.{_≤_};
 ghost use lib.ListN.{length};
-ghost use Rattle.resilient.specs.Resilient.{blocks, goodVotes, votesReading};
+ghost use Rattle.record.specs.Record.{short, parsedOf};
+ghost use Rattle.record.specs.Answers.{readAs};
+ghost use Rattle.convolution.specs.Demand3.{decodedFrom};
+ghost use Rattle.resample.specs.Samples.{Sized};
+ghost use Rattle.resilient.specs.Resilient.{cleared, markedSamples, writtenOf, pictureVotes, readingOf, blocks, goodVotes, votesReading};
+
+// Values of the plane, which stands first in the work area.
+const PLANE: usize = 65536;
+
+// Puts the blocks' bits into a picture's samples. The plane holds the picture's and then its change.
+fn put_bits(samples: &mut [u8], p: Picture, bits: &[u8; 1024], plane: &mut [f32])
+    requires { ⌜ Sized (p .width) (p .height) (p .channels) (now samples) × (512 ≤ p .width) × (512 ≤ p .height) × (length (now plane) ≡ 65536) ⌝ }
+    ensures length { λ _. ⌜ length (now (plane .exit)) ≡ 65536 ⌝ }
+    ensures marked { λ _. ⌜ now (samples .exit) ≡ markedSamples p (now (bits .entry)) (now (samples .entry)) ⌝ }
+{
+    resample::down::plane(samples, p.width, p.height, p.channels, plane);
+    marking::embed_bits(plane, bits);
+    resample::up::change_samples(plane, p.width, p.height, p.channels, samples);
+}
+
+// The same in a work area, which ends as zeros.
+fn mark(samples: &mut [u8], p: Picture, bits: &[u8; 1024], work: &mut [f32])
+    requires { ⌜ Sized (p .width) (p .height) (p .channels) (now samples) × (512 ≤ p .width) × (512 ≤ p .height) × (65536 ≤ length (now work)) ⌝ }
+    ensures marked { λ _. ⌜ now (samples .exit) ≡ markedSamples p (now (bits .entry)) (now (samples .entry)) ⌝ }
+    ensures cleared { λ _. ⌜ now (work .exit) ≡ cleared (now (work .entry)) ⌝ }
+{
+    put_bits(samples, p, bits, &mut work[0..PLANE]);
+    seq::zero_floats(work);
+}
+
+// Writes the text into the picture, plain or under the lock's key. Refused, with samples and work area as they were
+// lent: 1 to 7 of the scope paper's table, the first that applies. Otherwise the work area ends as zeros.
+pub fn write(
+    samples: &mut [u8],
+    picture: Picture,
+    text: &[u8],
+    lock: Lock,
+    work: &mut [f32],
+) -> Answer
+    ensures answer { λ r. ⌜ r ≡ writtenOf (now (text .entry)) lock picture (now (samples .entry)) (now (work .entry)) .answer ⌝ }
+    ensures samples { λ _. ⌜ now (samples .exit) ≡ writtenOf (now (text .entry)) lock picture (now (samples .entry)) (now (work .entry)) .samples ⌝ }
+    ensures work { λ _. ⌜ now (work .exit) ≡ writtenOf (now (text .entry)) lock picture (now (samples .entry)) (now (work .entry)) .work ⌝ }
+{
+    let built = record::build_record(text, lock);
+    let text_answer = built.answer;
+    let answer = picture::first(
+        text_answer,
+        picture::may_write(picture, samples.len(), work.len()),
+    );
+    let Answer::Done = answer else {
+        return answer;
+    };
+    let bytes = built.bytes;
+    let bits = layout::block_bits(&convolution::encoder::encode(&bytes));
+    mark(samples, picture, &bits, work);
+    answer
+}
+
+// The votes of the picture's blocks.
+fn plane_votes(samples: &[u8], p: Picture, plane: &mut [f32]) -> [f32; BLOCKS]
+    requires { ⌜ Sized (p .width) (p .height) (p .channels) (now samples) × (length (now plane) ≡ 65536) ⌝ }
+    ensures length { λ _. ⌜ length (now (plane .exit)) ≡ 65536 ⌝ }
+    ensures votes { λ r. ⌜ r ≡ pictureVotes p (now (samples .entry)) ⌝ }
+{
+    resample::down::plane(samples, p.width, p.height, p.channels, plane);
+    marking::block_soft(plane)
+}
+
+// The same in a work area, which ends as zeros.
+fn votes_of(samples: &[u8], p: Picture, work: &mut [f32]) -> [f32; BLOCKS]
+    requires { ⌜ Sized (p .width) (p .height) (p .channels) (now samples) × (65536 ≤ length (now work)) ⌝ }
+    ensures votes { λ r. ⌜ r ≡ pictureVotes p (now (samples .entry)) ⌝ }
+    ensures cleared { λ _. ⌜ now (work .exit) ≡ cleared (now (work .entry)) ⌝ }
+{
+    let votes = plane_votes(samples, p, &mut work[0..PLANE]);
+    seq::zero_floats(work);
+    votes
+}
+
+// The text of the record that the blocks' votes decode to.
+fn decode(votes: &[f32; BLOCKS], key: Key) -> Reading
+    ensures { λ r. ⌜ r ≡ readAs (parsedOf short (decodedFrom (now (votes .entry))) key) ⌝ }
+{
+    let soft = layout::gather(votes);
+    let bytes = convolution::decoder::viterbi(&soft);
+    record::parse_record(&bytes, key)
+}
+
+// The text that the picture carries, read with a key or with none. Refused: a picture with a zero side, 4 to 7 of the
+// scope paper's table, with the work area as it was lent, and what `parse_record` refuses. But for the first, the work
+// area ends as zeros.
+pub fn read(samples: &[u8], picture: Picture, key: Key, work: &mut [f32]) -> Reading
+    ensures reading { λ r. ⌜ r ≡ readingOf key picture (now (samples .entry)) (now (work .entry)) .reading ⌝ }
+    ensures work { λ _. ⌜ now (work .exit) ≡ readingOf key picture (now (samples .entry)) (now (work .entry)) .work ⌝ }
+{
+    let answer = picture::may_read(picture, samples.len(), work.len());
+    match answer {
+        Answer::Refused(r) => record::not_read(r),
+        Answer::Done => {
+            let votes = votes_of(samples, picture, work);
+            decode(&votes, key)
+        }
+    }
+}
 
 // A vote for each of the picture's blocks.
 const BLOCKS: usize = 1024;
@@ -44,7 +152,5 @@ pub fn read_votes(votes: &[f32], key: Key) -> Reading
     if bad < BLOCKS {
         return record::not_read(Refusal::BadVote(bad));
     }
-    let soft = layout::gather(&every_block(votes));
-    let bytes = convolution::decoder::viterbi(&soft);
-    record::parse_record(&bytes, key)
+    decode(&every_block(votes), key)
 }

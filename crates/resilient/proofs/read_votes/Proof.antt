@@ -4,7 +4,6 @@ use borrow.Author.Tests.{eq-eqb, ne-eqb, lt-ltb, le-ltb}
 use native.Mathlib.Omega.{arith}
 use lib.ListN.{length}
 use denote.Ref.{now}
-use Rattle.convolution.specs.Demand3.{decodedFrom}
 use Rattle.resilient.specs.Resilient.{blocks, votesOutcome, votesReading}
 use Rattle.resilient.proofs.read_votes.Statement.{statement}
 use Rattle.resilient.proofs.read_votes.Tie as tie
@@ -35,25 +34,17 @@ returns-2 c =
 every-block-requires : tie.Need-every-block-requires
 every-block-requires c κs = search needs
 
-gather-requires : tie.Need-gather-requires
-gather-requires c κs = search needs
-
-viterbi-requires : tie.Need-viterbi-requires
-viterbi-requires c κs = search needs
-
-parse-record-requires : tie.Need-parse-record-requires
-parse-record-requires c κs = search needs
+decode-requires : tie.Need-decode-requires
+decode-requires c κs = search needs
 
 returns-3 : tie.Need-returns-3
-unfolding votesReading votesOutcome decodedFrom
+unfolding votesReading votesOutcome
 returns-3 c =
-    let decoded = c .before .before in
-    let gathered = decoded .before .before in
-    let all = gathered .before .before in
+    let all = c .before .before in
     let found = all .before .before in
     let many = found .before in
     let votes = now (many .before .before .args .votes) in
-    rw (c .parse-record .ensures, decoded .viterbi .ensures, gathered .gather .ensures, all .every-block .ensures, ← found .first-bad .ensures, eq-eqb (length votes) blocks (many .if1 .left), le-ltb (found .first-bad .result) blocks (omega arith))
+    rw (c .decode .ensures, all .every-block .ensures, ← found .first-bad .ensures, eq-eqb (length votes) blocks (many .if1 .left), le-ltb (found .first-bad .result) blocks (omega arith))
 
 pub read-votes-spec : {M : Type 1} → statement M
 read-votes-spec =
@@ -65,7 +56,5 @@ read-votes-spec =
     not-read-requires-2
     returns-2
     every-block-requires
-    gather-requires
-    viterbi-requires
-    parse-record-requires
+    decode-requires
     returns-3)

@@ -1,0 +1,40 @@
+-- What the four calls promise, one in the other. Assumes nothing.
+use borrow.Author.Needs.{needs}
+use mathlib.Core.Path.{_∙_, ap}
+use mathlib.Core.List.{List}
+use denote.Ref.{now}
+use lib.Ieee.{Float, binary32, sub}
+use Rattle.block.specs.Grid.{grid, cell}
+use Rattle.block.specs.Transform.{inverseOf}
+use Rattle.block.specs.Mark.{markedBlock}
+use Rattle.marking.specs.Marking.{blockChange}
+use Rattle.marking.proofs.block_change.Statement.{statement}
+use Rattle.marking.proofs.block_change.Tie as tie
+
+forward-requires : tie.Need-forward-requires
+forward-requires c κs = search needs
+
+mark-block-requires : tie.Need-mark-block-requires
+mark-block-requires c κs = search needs
+
+inverse-requires : tie.Need-inverse-requires
+inverse-requires c κs = search needs
+
+difference-requires : tie.Need-difference-requires
+difference-requires c κs = search needs
+
+returns : tie.Need-returns
+unfolding blockChange
+returns c =
+    let back = c .before .before in
+    let marked = back .before .before in
+    let transformed = marked .before .before in
+    let args = transformed .before .before .before .args in
+    c .difference .ensures
+    ∙ ap (λ (x : List Float). grid (λ r c. sub binary32 (cell x r c) (cell (now (args .values)) r c)))
+    (back .inverse .ensures ∙ ap inverseOf (marked .mark-block .ensures ∙ ap (markedBlock (args .u) (args .bit)) (transformed .forward .ensures)))
+
+pub block-change-spec : {M : Type 1} → statement M
+block-change-spec =
+    tie.close
+    (tie.spec forward-requires mark-block-requires inverse-requires difference-requires returns)

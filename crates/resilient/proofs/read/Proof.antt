@@ -1,0 +1,78 @@
+-- The answer decides what is left: all as it was lent, or the votes read. Assumes nothing.
+use mathlib.Core.Path.{_≡_, refl, sym, _∙_, ap}
+use mathlib.Core.List.{List}
+use lib.Dec.{lit≤}
+use lib.ListN.{length}
+use lib.Ieee.{Float}
+use denote.Ref.{now}
+use Rattle.record.specs.declared.Answer.the-variants.{Done}
+use Rattle.record.specs.Record.{short, parsedOf}
+use Rattle.record.specs.Answers.{readAs}
+use Rattle.convolution.specs.Demand3.{decodedFrom}
+use Rattle.picture.specs.Admission.{readAdmission}
+use Rattle.picture.specs.Admitted.{read-admitted}
+use Rattle.resilient.specs.Sized.{sized, plane-room}
+use Rattle.resilient.specs.Left.{read-done, read-refused}
+use borrow.Author.Needs.{needs}
+use Rattle.resilient.proofs.read.Statement.{statement}
+use Rattle.resilient.proofs.read.Tie as tie
+
+may-read-requires : tie.Need-may-read-requires
+may-read-requires c κs = search needs
+
+enum-known-answer : tie.Need-enum-known-answer
+enum-known-answer c = search needs
+
+not-read-requires : tie.Need-not-read-requires
+not-read-requires c κs = search needs
+
+enum-told : tie.Need-enum-told
+enum-told c = search needs
+
+-- the answer is the definition's
+answered : (c : tie.After-may-read) → let start = c .before .before .before in c .may-read .result ≡ readAdmission (start .args .picture) (length (now (start .args .samples))) (length (now (start .args .work)))
+answered c = c .may-read .ensures
+
+done : (c : tie.After-enum-told) → let start = c .before .before .before .before .before .args in readAdmission (start .picture) (length (now (start .samples))) (length (now (start .work))) ≡ Done
+done c = sym (answered (c .before .before)) ∙ c .enum-told .given .1
+
+votes-of-requires : tie.Need-votes-of-requires
+votes-of-requires c κs =
+    let told = c .before in
+    let start = told .before .before .before .before .before .args in
+    let may = read-admitted (start .picture) (length (now (start .samples))) (length (now (start .work))) (done told) in
+    (sized 1 (start .picture) (now (start .samples)) (length (now (start .work))) (may .2) (may .0) (may .1), plane-room 1 (start .picture) (now (start .samples)) (length (now (start .work))) (may .2) (lit≤ tt))
+
+decode-requires : tie.Need-decode-requires
+decode-requires c κs = search needs
+
+returns : tie.Need-returns
+returns c =
+    let start = c .before .before .before .before .before .before .before .args in
+    let left = read-refused (start .key) (start .picture) (now (start .samples)) (now (start .work)) _ (sym (answered (c .before .before .before .before)) ∙ c .before .before .answer .given .1) in
+    (c .not-read .ensures ∙ sym (left .0), sym (left .1))
+
+same-length : tie.Need-same-length
+same-length c = search needs
+
+returns-2 : tie.Need-returns-2
+returns-2 c =
+    let told = c .before .before .before .before .before .before in
+    let start = told .before .before .before .before .before .args in
+    let left = read-done (start .key) (start .picture) (now (start .samples)) (now (start .work)) (done told) in
+    let votes = c .before .before .before .before .votes-of .ensures in
+    (c .decode .ensures ∙ (ap (λ (v : List Float). readAs (parsedOf short (decodedFrom v) (start .key))) (votes .0) ∙ sym (left .0)), votes .1 ∙ sym (left .1))
+
+pub read-spec : {M : Type 1} → statement M
+read-spec =
+    tie.close
+    (tie.spec
+    may-read-requires
+    enum-known-answer
+    not-read-requires
+    enum-told
+    votes-of-requires
+    decode-requires
+    returns
+    same-length
+    returns-2)

@@ -1,0 +1,52 @@
+-- The plane is put back into the work area, which is then cleared. Assumes nothing.
+use mathlib.Core.Path.{_≡_, _∙_, ap}
+use mathlib.Core.List.{_++_}
+use Prim.Native.Nat.{ℕ}
+use native.Mathlib.Omega.{arith}
+use lib.ListN.{length, drop, replicate, length-append, length-drop}
+use lib.Ieee.{ofBits}
+use denote.Ref.{now}
+use Rattle.float.specs.Base.{zero+}
+use borrow.Author.Needs.{needs}
+use Rattle.resilient.proofs.votes_of.Statement.{statement}
+use Rattle.resilient.proofs.votes_of.Tie as tie
+
+sub-plane-votes : tie.Need-sub-plane-votes
+sub-plane-votes c = search needs
+
+part-plane-votes-start : tie.Need-part-plane-votes-start
+part-plane-votes-start c = search needs
+
+part-plane-votes-end : tie.Need-part-plane-votes-end
+part-plane-votes-end c = search needs
+
+plane-votes-requires : tie.Need-plane-votes-requires
+plane-votes-requires c κs = search needs
+
+zero-floats-requires : tie.Need-zero-floats-requires
+zero-floats-requires c κs = search needs
+
+same-length : tie.Need-same-length
+same-length c = search needs
+
+returns : tie.Need-returns
+unfolding ofBits
+returns c =
+    let start = c .before .before .before .before .before .before .before .before .before .before in
+    let put = c .before .before .before .before .before .before .plane-votes in
+    let plane = put .last .1 .1 .0 in
+    let work = now (start .args .work) in
+    let long : length (plane ++ drop 65536 work) ≡ length work = omega (arith, length-append plane (drop 65536 work), put .ensures .0, length-drop 65536 work, start .pre .1) in
+    (put .ensures .1, c .before .before .zero-floats .ensures ∙ ap (λ (n : ℕ). replicate n zero+) long)
+
+pub votes-of-spec : {M : Type 1} → statement M
+votes-of-spec =
+    tie.close
+    (tie.spec
+    sub-plane-votes
+    part-plane-votes-start
+    part-plane-votes-end
+    plane-votes-requires
+    zero-floats-requires
+    same-length
+    returns)

@@ -1,0 +1,103 @@
+-- The answer decides what is left: all as it was lent, or what `mark` makes of it. Assumes nothing.
+use mathlib.Core.Path.{_≡_, refl, sym, _∙_, ap}
+use mathlib.Core.List.{List}
+use Prim.Native.Nat.{ℕ}
+use native.Mathlib.Omega.{arith}
+use lib.Dec.{lit≤}
+use lib.ListN.{length}
+use denote.Ref.{now}
+use Rattle.record.specs.declared.Answer.the-variants.{Done}
+use Rattle.record.specs.declared.Built.{Built}
+use Rattle.layout.specs.Places.{blockBits}
+use Rattle.convolution.specs.Ccsds131.{encodeOf}
+use Rattle.picture.specs.Admitted.{first-done, write-admitted}
+use Rattle.resilient.specs.Resilient.{bitsOf, markedSamples, writeAnswer, writtenOf}
+use Rattle.resilient.specs.Sized.{sized, plane-room}
+use Rattle.resilient.specs.Left.{built-done, written-done, written-refused}
+use borrow.Author.Needs.{needs}
+use Rattle.resilient.proofs.write.Statement.{statement}
+use Rattle.resilient.proofs.write.Tie as tie
+
+build-record-requires : tie.Need-build-record-requires
+build-record-requires c κs = search needs
+
+may-write-requires : tie.Need-may-write-requires
+may-write-requires c κs = search needs
+
+first-requires : tie.Need-first-requires
+first-requires c κs = search needs
+
+enum-told : tie.Need-enum-told
+enum-told c = search needs
+
+enum-told-2 : tie.Need-enum-told-2
+enum-told-2 c = search needs
+
+-- the answer is the definition's
+answered : (c : tie.After-first) → let start = c .before .before .before .before .before .before in c .first .result ≡ writeAnswer (now (start .args .text)) (start .args .lock) (start .args .picture) (length (now (start .args .samples))) (length (now (start .args .work)))
+unfolding writeAnswer
+answered c = rw (c .first .ensures, c .before .before .build-record .ensures, c .before .may-write .ensures) refl
+
+returns : tie.Need-returns
+unfolding writtenOf
+returns c =
+    let start = c .before .before .before .before .before .before .before .before .args in
+    let answer = answered (c .before .before) in
+    let left = written-refused (now (start .text)) (start .lock) (start .picture) (now (start .samples)) (now (start .work)) _ (sym answer ∙ c .enum-told2 .given .1) in
+    (answer, (sym (left .0), sym (left .1)))
+
+-- where it is Done, the text has its record and the picture is admitted
+done : (c : tie.After-enum-told) → let start = c .before .before .before .before .before .before .before .before .args in writeAnswer (now (start .text)) (start .lock) (start .picture) (length (now (start .samples))) (length (now (start .work))) ≡ Done
+done c = sym (answered (c .before .before)) ∙ c .enum-told .given .1
+
+encode-requires : tie.Need-encode-requires
+encode-requires c κs = search needs
+
+block-bits-requires : tie.Need-block-bits-requires
+block-bits-requires c κs = search needs
+
+mark-requires : tie.Need-mark-requires
+unfolding writeAnswer
+mark-requires c κs =
+    let told = c .before .before .before .before .before .before .before .before in
+    let start = told .before .before .before .before .before .before .before .before .args in
+    let may = write-admitted (start .picture) (length (now (start .samples))) (length (now (start .work))) (first-done _ _ (done told) .1) in
+    (sized 2 (start .picture) (now (start .samples)) (length (now (start .work))) (may .2) (omega (arith, may .0)) (omega (arith, may .1)), may .0, may .1, plane-room 2 (start .picture) (now (start .samples)) (length (now (start .work))) (may .2) (lit≤ tt))
+
+same-length : tie.Need-same-length
+same-length c = search needs
+
+same-length-2 : tie.Need-same-length-2
+same-length-2 c = search needs
+
+returns-2 : tie.Need-returns-2
+unfolding bitsOf writtenOf writeAnswer
+returns-2 c =
+    let told = c .before .before .before .before .before .before .before .before .before .before .before .before .before in
+    let start = told .before .before .before .before .before .before .before .before .args in
+    let text = built-done (now (start .text)) (start .lock) (first-done _ _ (done told) .0) in
+    let left = written-done (now (start .text)) (start .lock) (start .picture) (now (start .samples)) (now (start .work)) (done told) in
+    let marked = c .before .before .before .before .mark .ensures in (
+      answered (told .before .before),
+      (
+        marked .0 ∙ (ap (λ (bits : List ℕ). markedSamples (start .picture) bits (now (start .samples))) (c .before .before .before .before .before .before .before .before .block-bits .ensures ∙ ap (blockBits 748) (c .before .before .before .before .before .before .before .before .before .before .encode .ensures ∙ ap encodeOf (ap (λ (built : Built). built .bytes) (told .before .before .before .before .build-record .ensures) ∙ text))) ∙ sym (left .0)),
+        marked .1 ∙ sym (left .1),
+      ),
+    )
+
+pub write-spec : {M : Type 1} → statement M
+write-spec =
+    tie.close
+    (tie.spec
+    build-record-requires
+    may-write-requires
+    first-requires
+    enum-told
+    enum-told-2
+    returns
+    encode-requires
+    block-bits-requires
+    mark-requires
+    same-length
+    same-length-2
+    returns-2)

@@ -1,0 +1,80 @@
+-- What writing and reading leave, by their answers: where there is a refusal all is as it was lent. Assumes nothing.
+use mathlib.Core.Path.{_≡_, refl}
+use mathlib.Core.Bool.{Bool, true, false, not, cond}
+use mathlib.Core.List.{List}
+use Prim.Native.Nat.{ℕ}
+use native.Mathlib.Omega.{arith}
+use lib.Dec.{leb}
+use lib.ListN.{length}
+use lib.Ieee.{Float}
+use Rattle.utf8.specs.Counted.{counted}
+use Rattle.refusal.specs.declared.Refusal.{Refusal}
+use Rattle.refusal.specs.declared.Refusal.the-variants.{TextTooLong, TextNotUtf8}
+use Rattle.record.specs.declared.Answer.{Answer}
+use Rattle.record.specs.declared.Answer.the-variants.{Done, Refused}
+use Rattle.record.specs.declared.Key.{Key}
+use Rattle.record.specs.declared.Lock.{Lock}
+use Rattle.record.specs.Record.{short, recordOf, refused, gives, builtOf, parsedOf}
+use Rattle.record.specs.Answers.{builtAs, readAs}
+use Rattle.convolution.specs.Demand3.{decodedFrom}
+use Rattle.picture.specs.declared.Picture.{Picture}
+use Rattle.picture.specs.Admission.{readAdmission}
+use Rattle.resilient.specs.Resilient.{ifDone, cleared, bitsOf, markedSamples, writeAnswer, writtenOf, pictureVotes, readingFrom, readingOf}
+
+-- a text that is not refused has its record
+pub built-done : (text : List ℕ) (lock : Lock) → builtAs (builtOf short text lock) .answer ≡ Done → builtAs (builtOf short text lock) .bytes ≡ recordOf short text lock
+unfolding builtOf
+built-done text lock e = go (leb (length text) (short .room)) (counted text) e
+  where
+    go : (s t : Bool)
+        → builtAs (cond (not s) (refused (TextTooLong (length text))) (cond (not t) (refused TextNotUtf8) (gives (recordOf short text lock)))) .answer ≡ Done
+        → builtAs (cond (not s) (refused (TextTooLong (length text))) (cond (not t) (refused TextNotUtf8) (gives (recordOf short text lock)))) .bytes ≡ recordOf short text lock
+    go true true e = refl
+    go true false e = let z : _≡_ {A = ℕ} 0 1 = cc e in absurd (omega arith)
+    go false t e = let z : _≡_ {A = ℕ} 0 1 = cc e in absurd (omega arith)
+
+module _ {A : Type 0} (new lent : A) where
+  if-done : (a : Answer) → a ≡ Done → ifDone a new lent ≡ new
+  unfolding ifDone
+  if-done Done e = refl
+  if-done (Refused r) e = let z : _≡_ {A = ℕ} 0 1 = cc e in absurd (omega arith)
+
+  if-refused : (a : Answer) (r : Refusal) → a ≡ Refused r → ifDone a new lent ≡ lent
+  unfolding ifDone
+  if-refused Done r e = let z : _≡_ {A = ℕ} 0 1 = cc e in absurd (omega arith)
+  if-refused (Refused q) r e = refl
+
+-- ---- writing
+
+module _ (text : List ℕ) (lock : Lock) (p : Picture) (samples : List ℕ) (work : List Float) where
+  pub written-done : writeAnswer text lock p (length samples) (length work) ≡ Done
+      → (writtenOf text lock p samples work .samples ≡ markedSamples p (bitsOf text lock) samples) × (writtenOf text lock p samples work .work ≡ cleared work)
+  unfolding writtenOf
+  written-done e = (if-done _ _ _ e, if-done _ _ _ e)
+
+  -- a refused write leaves the samples and the work area as they were
+  pub written-refused : (r : Refusal) → writtenOf text lock p samples work .answer ≡ Refused r → (writtenOf text lock p samples work .samples ≡ samples) × (writtenOf text lock p samples work .work ≡ work)
+  unfolding writtenOf
+  written-refused r e = (if-refused _ _ _ r e, if-refused _ _ _ r e)
+
+-- ---- reading
+
+module _ (key : Key) (p : Picture) (samples : List ℕ) (work : List Float) where
+  pub read-done : readAdmission p (length samples) (length work) ≡ Done
+      → (readingOf key p samples work .reading ≡ readAs (parsedOf short (decodedFrom (pictureVotes p samples)) key)) × (readingOf key p samples work .work ≡ cleared work)
+  unfolding readingOf readingFrom
+  read-done e = (done _ e, if-done _ _ _ e)
+    where
+      done : (a : Answer) → a ≡ Done → readingFrom a (pictureVotes p samples) key ≡ readAs (parsedOf short (decodedFrom (pictureVotes p samples)) key)
+      done Done e = refl
+      done (Refused r) e = let z : _≡_ {A = ℕ} 0 1 = cc e in absurd (omega arith)
+
+  -- a picture that is refused gives no text and leaves the work area as it was
+  pub read-refused : (r : Refusal) → readAdmission p (length samples) (length work) ≡ Refused r
+      → (readingOf key p samples work .reading ≡ readAs (refused r)) × (readingOf key p samples work .work ≡ work)
+  unfolding readingOf readingFrom
+  read-refused r e = (not-read _ e, if-refused _ _ _ r e)
+    where
+      not-read : (a : Answer) → a ≡ Refused r → readingFrom a (pictureVotes p samples) key ≡ readAs (refused r)
+      not-read Done e = let z : _≡_ {A = ℕ} 0 1 = cc e in absurd (omega arith)
+      not-read (Refused q) e = cc e
