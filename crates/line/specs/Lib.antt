@@ -1,1 +1,5 @@
 pub mod Input
+pub mod Line
+pub mod Put
+pub mod Laws
+pub mod Theorems

@@ -1,17 +1,30 @@
 // The line that the program `votes` answers its input with: the input as votes, read with no key, and the
-// answer in words. From the scope paper, which specs/Input.antt is.
+// answer in words. From the scope paper, which specs/Input.antt and specs/Line.antt are.
+mod put;
+
 use record::Answer;
 use record::Key;
 use record::Reading;
 use refusal::Refusal;
 ghost use mathlib.Core.Path.{_≡_};
+ghost use Prim.Native.Nat.{_≤_};
 ghost use lib.ListN.{length};
 ghost use Rattle.seq.specs.Tab.{tab};
 ghost use Rattle.resilient.specs.Resilient.{blocks};
 ghost use Rattle.line.specs.Input.{voteAt, bytesReading};
+ghost use Rattle.line.specs.Line.{textLine, refusedLine, lineOf, lineAs, Lends};
 
 // Four for each vote.
 const BYTES: usize = 4096;
+
+// The longest line is "text 32 ", 64 digits and the line's end.
+const ROOM: usize = 73;
+
+// A line with its end, and zeros behind it.
+pub struct Line {
+    pub bytes: [u8; ROOM],
+    pub length: usize,
+}
 
 fn votes_in(bytes: &[u8]) -> [f32; 1024]
     requires { ⌜ length (now bytes) ≡ 4096 ⌝ }
@@ -42,45 +55,48 @@ pub fn read_bytes(bytes: &[u8]) -> Reading
     resilient::read_votes(&all, key)
 }
 
-// Writes the line for the bytes to standard output: "text", its length and its bytes in lowercase hex, "-" if
-// there are none; or "refused", the refusal's number and the number given, in decimal.
-pub fn say(bytes: &[u8]) {
+// The line of a text of at most 32 bytes.
+fn text_line(text: &[u8]) -> Line
+    requires { ⌜ length (now text) ≤ 32 ⌝ }
+    ensures { λ r. ⌜ r ≡ lineAs (textLine (length (now (text .entry))) (now (text .entry))) ⌝ }
+{
+    let mut bytes = [0u8; ROOM];
+    let mut at = put::bytes(b"text ", &mut bytes, 0);
+    at = put::decimal(text.len() as u64, &mut bytes, at);
+    at = put::bytes(b" ", &mut bytes, at);
+    at = put::hex(text, &mut bytes, at);
+    at = put::bytes(b"\n", &mut bytes, at);
+    Line { bytes, length: at }
+}
+
+// The line of a refusal's number and the number given.
+fn refused_line(number: u64, given: u64) -> Line
+    ensures { λ r. ⌜ r ≡ lineAs (refusedLine number given) ⌝ }
+{
+    let mut bytes = [0u8; ROOM];
+    let mut at = put::bytes(b"refused ", &mut bytes, 0);
+    at = put::decimal(number, &mut bytes, at);
+    at = put::bytes(b" ", &mut bytes, at);
+    at = put::decimal(given, &mut bytes, at);
+    at = put::bytes(b"\n", &mut bytes, at);
+    Line { bytes, length: at }
+}
+
+// The line that says what the bytes are read as: "text", its length and its bytes in lowercase hex, "-" if
+// there are none; or "refused", the refusal's number and the number given, in decimal. That its bytes can be
+// lent follows from what it is, and is said for callers.
+pub fn say(bytes: &[u8]) -> Line
+    ensures { λ r. ⌜ r ≡ lineAs (lineOf (bytesReading (now (bytes .entry)))) ⌝ }
+    ensures { λ r. ⌜ Lends r ⌝ }
+{
     let reading = read_bytes(bytes);
     let answer = reading.answer;
-    match answer {
-        Answer::Done => {
-            let text = reading.text;
-            say_text(&text, reading.length);
-        }
-        Answer::Refused(r) => say_refused(r),
-    }
-}
-
-fn say_text(text: &[u8; 32], length: usize) {
-    let out = libc::STDOUT_FILENO;
-    io::write_all(out, b"text ");
-    io::print_decimal(out, length as u64);
-    io::write_all(out, b" ");
-    if length == 0 {
-        io::write_all(out, b"-");
-    }
-    for i in 0..32usize {
-        if i < length {
-            io::print_hex(out, wide(text[i]), 2);
-        }
-    }
-    io::write_all(out, b"\n");
-}
-
-fn wide(byte: u8) -> u64 {
-    byte as u64
-}
-
-fn say_refused(r: Refusal) {
-    let out = libc::STDOUT_FILENO;
-    io::write_all(out, b"refused ");
-    io::print_decimal(out, refusal::number(r) as u64);
-    io::write_all(out, b" ");
-    io::print_decimal(out, refusal::given(r));
-    io::write_all(out, b"\n");
+    let Answer::Refused(r) = answer else {
+        let text = reading.text;
+        let length = reading.length;
+        return text_line(&text[..length]);
+    };
+    let number = refusal::number(r) as u64;
+    let given = refusal::given(r);
+    refused_line(number, given)
 }

@@ -14,9 +14,11 @@ use Rattle.chacha20.specs.Laws.{applied-next}
 use Rattle.utf8.specs.Rfc3629.{wellFormed}
 use Rattle.utf8.specs.Counted.{counted}
 use Rattle.utf8.specs.Texts.{wellFormed-counted}
+use Rattle.record.specs.declared.Answer.the-variants.{Done}
 use Rattle.record.specs.declared.Lock.{Lock}
 use Rattle.record.specs.declared.Key.{Key}
 use Rattle.record.specs.Record.{Profile, short, saltAt, lengthAt, outerAt, numberAt, intact, covered, refused, gives, headOf, locked, recordOf, builtOf, textIn, insideOf, parsedOf}
+use Rattle.record.specs.Answers.{builtAs}
 use Rattle.record.specs.Opened.{outer-right, head-there, mode-keyed, mode-plain, salt-there, text-opened, inside-opened}
 
 -- the key that a lock is opened with
@@ -128,3 +130,17 @@ module _ (p : Profile) (apart : eqb (p .keyed) (p .plain) ≡ false) where
       ∙ (ap textIn (same-locked lock₁ lock₂ (recordOf p text₁ lock₁) (heads .0) same ∙ ap (locked p lock₂) both)
       ∙ text-opened p text₂ lock₂ four₂ fits₂) in
       (texts, heads .0, heads .1)
+
+-- ---- building
+
+-- a text that is not refused has its record
+pub built-done : (text : List ℕ) (lock : Lock) → builtAs (builtOf short text lock) .answer ≡ Done → builtAs (builtOf short text lock) .bytes ≡ recordOf short text lock
+unfolding builtOf
+built-done text lock e = go (leb (length text) (short .room)) (counted text) e
+  where
+    go : (s t : Bool)
+        → builtAs (cond (not s) (refused (TextTooLong (length text))) (cond (not t) (refused TextNotUtf8) (gives (recordOf short text lock)))) .answer ≡ Done
+        → builtAs (cond (not s) (refused (TextTooLong (length text))) (cond (not t) (refused TextNotUtf8) (gives (recordOf short text lock)))) .bytes ≡ recordOf short text lock
+    go true true e = refl
+    go true false e = let z : _≡_ {A = ℕ} 0 1 = cc e in absurd (omega arith)
+    go false t e = let z : _≡_ {A = ℕ} 0 1 = cc e in absurd (omega arith)

@@ -3,7 +3,10 @@
 fn file(path: &[u8]) {
     let mut bytes = lists::room();
     let count = lists::load(path, &mut bytes);
-    line::say(&bytes[..count]);
+    let answer = line::say(&bytes[..count]);
+    let line = answer.bytes;
+    let length = answer.length;
+    io::write_all(libc::STDOUT_FILENO, &line[..length]);
 }
 
 fn main() {

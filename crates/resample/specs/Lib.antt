@@ -7,4 +7,5 @@ pub mod Pixels
 pub mod Sums
 pub mod Changed
 pub mod Finite
+pub mod Alpha
 pub mod Sheet

@@ -1,37 +1,21 @@
 -- What writing and reading leave, by their answers: where there is a refusal all is as it was lent. Assumes nothing.
 use mathlib.Core.Path.{_≡_, refl}
-use mathlib.Core.Bool.{Bool, true, false, not, cond}
 use mathlib.Core.List.{List}
 use Prim.Native.Nat.{ℕ}
 use native.Mathlib.Omega.{arith}
-use lib.Dec.{leb}
 use lib.ListN.{length}
 use lib.Ieee.{Float}
-use Rattle.utf8.specs.Counted.{counted}
 use Rattle.refusal.specs.declared.Refusal.{Refusal}
-use Rattle.refusal.specs.declared.Refusal.the-variants.{TextTooLong, TextNotUtf8}
 use Rattle.record.specs.declared.Answer.{Answer}
 use Rattle.record.specs.declared.Answer.the-variants.{Done, Refused}
 use Rattle.record.specs.declared.Key.{Key}
 use Rattle.record.specs.declared.Lock.{Lock}
-use Rattle.record.specs.Record.{short, recordOf, refused, gives, builtOf, parsedOf}
-use Rattle.record.specs.Answers.{builtAs, readAs}
+use Rattle.record.specs.Record.{short, refused, parsedOf}
+use Rattle.record.specs.Answers.{readAs}
 use Rattle.convolution.specs.Demand3.{decodedFrom}
 use Rattle.picture.specs.declared.Picture.{Picture}
 use Rattle.picture.specs.Admission.{readAdmission}
 use Rattle.resilient.specs.Resilient.{ifDone, cleared, bitsOf, markedSamples, writeAnswer, writtenOf, pictureVotes, readingFrom, readingOf}
-
--- a text that is not refused has its record
-pub built-done : (text : List ℕ) (lock : Lock) → builtAs (builtOf short text lock) .answer ≡ Done → builtAs (builtOf short text lock) .bytes ≡ recordOf short text lock
-unfolding builtOf
-built-done text lock e = go (leb (length text) (short .room)) (counted text) e
-  where
-    go : (s t : Bool)
-        → builtAs (cond (not s) (refused (TextTooLong (length text))) (cond (not t) (refused TextNotUtf8) (gives (recordOf short text lock)))) .answer ≡ Done
-        → builtAs (cond (not s) (refused (TextTooLong (length text))) (cond (not t) (refused TextNotUtf8) (gives (recordOf short text lock)))) .bytes ≡ recordOf short text lock
-    go true true e = refl
-    go true false e = let z : _≡_ {A = ℕ} 0 1 = cc e in absurd (omega arith)
-    go false t e = let z : _≡_ {A = ℕ} 0 1 = cc e in absurd (omega arith)
 
 module _ {A : Type 0} (new lent : A) where
   if-done : (a : Answer) → a ≡ Done → ifDone a new lent ≡ new

@@ -8,12 +8,13 @@ use lib.ListN.{length}
 use denote.Ref.{now}
 use Rattle.record.specs.declared.Answer.the-variants.{Done}
 use Rattle.record.specs.declared.Built.{Built}
+use Rattle.record.specs.Theorems.{built-done}
 use Rattle.layout.specs.Places.{blockBits}
 use Rattle.convolution.specs.Ccsds131.{encodeOf}
 use Rattle.picture.specs.Admitted.{first-done, write-admitted}
 use Rattle.resilient.specs.Resilient.{bitsOf, markedSamples, writeAnswer, writtenOf}
 use Rattle.resilient.specs.Sized.{sized, plane-room}
-use Rattle.resilient.specs.Left.{built-done, written-done, written-refused}
+use Rattle.resilient.specs.Left.{written-done, written-refused}
 use borrow.Author.Needs.{needs}
 use Rattle.resilient.proofs.write.Statement.{statement}
 use Rattle.resilient.proofs.write.Tie as tie
