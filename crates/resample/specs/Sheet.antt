@@ -8,7 +8,7 @@ use Rattle.float.specs.Calls.{roundAway, roundedByte}
 use Rattle.resample.specs.Samples.{changedAt, changedRow}
 
 -- 1.5
-abbrev change : ℕ → Float
+abbrev pub change : ℕ → Float
 change x = ofBits binary32 0x3fc0_0000
 
 pub written : changedRow 4 change (254 ∷ 0 ∷ 100 ∷ 7 ∷ []) ≡ 255 ∷ 2 ∷ 102 ∷ 7 ∷ []

@@ -2,3 +2,4 @@ pub mod Sized
 pub mod Resilient
 pub mod Left
 pub mod Theorems
+pub mod SampleSheet

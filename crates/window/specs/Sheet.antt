@@ -7,7 +7,7 @@ use lib.Ieee.{binary32, ofBits, ofInt, toSigned, add, sub, mul, div, lt}
 use Rattle.float.specs.Calls.{floor, ceil, narrow, absolute, most}
 use Rattle.window.specs.Window.{Tap, windowOf, numbers, scaleOf, centerOf, supportOf, tentOf, weightOf, sumOf, clampOf, tapsTo, taps}
 
-abbrev tap : ℕ → ℕ → Tap
+abbrev pub tap : ℕ → ℕ → Tap
 tap k b = record { from = k; weight = ofBits binary32 b }
 
 -- the numbers run from a to b, and these are the taps, in rising order
