@@ -32,7 +32,7 @@ writeAdmission p samples work = cond (ltb (shorter p) 512) (Refused (ImageTooSma
 
 -- 8 for a zero side, then 4 to 7, for reading, which needs 65,536 + width x height
 unfoldable pub readAdmission : Picture → ℕ → ℕ → Answer
-readAdmission p samples work = cond (eqb (shorter p) 0) (Refused NoWatermark) (admission 1 p samples work)
+readAdmission p samples work = cond (eqb (p .width) 0 || eqb (p .height) 0) (Refused NoWatermark) (admission 1 p samples work)
 
 -- the first of two answers that is a refusal
 unfoldable pub first : Answer → Answer → Answer

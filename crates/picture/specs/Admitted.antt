@@ -97,9 +97,13 @@ write-admitted p samples work e =
 pub read-admitted : (p : Picture) (samples work : ℕ) → readAdmission p samples work ≡ Done → (0 < p .width) × (0 < p .height) × Admitted 1 p samples work
 unfolding readAdmission
 read-admitted p samples work e =
-    let none = past _ _ _ e in
-    let h : 0 < shorter p = positive (shorter p) (eqb-false (shorter p) 0 (none .0)) in
-    (omega (arith, sides-least p .0), omega (arith, sides-least p .1), admitted 1 p samples work (none .1))
+    let sides = past _ _ _ e in
+    let no = neither (eqb (p .width) 0) (eqb (p .height) 0) (sides .0) in
+    (positive (p .width) (eqb-false (p .width) 0 (no .0)), positive (p .height) (eqb-false (p .height) 0 (no .1)), admitted 1 p samples work (sides .1))
   where
+    neither : (s t : Bool) → (s || t) ≡ false → (s ≡ false) × (t ≡ false)
+    neither true t e = absurd (subst T e tt)
+    neither false t e = (refl, e)
+
     positive : (n : ℕ) → (n ≡ 0 → ⊥) → 0 < n
     positive n h = omega (arith, h)

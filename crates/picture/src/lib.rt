@@ -3,7 +3,9 @@
 use record::Answer;
 use refusal::Refusal;
 ghost use mathlib.Core.Path.{_≡_};
+ghost use mathlib.Core.Bool.{_||_};
 ghost use Prim.Native.Nat.{_*_, _≤_};
+ghost use lib.Dec.{eqb};
 ghost use Rattle.picture.specs.Admission.{shorter, longer, admission, writeAdmission, readAdmission, first};
 
 // The sides of a picture and the samples of a pixel.
@@ -41,6 +43,12 @@ fn longer(p: Picture) -> usize
     }
 }
 
+fn empty(p: Picture) -> bool
+    ensures { λ r. ⌜ r ≡ (eqb (p .width) 0 || eqb (p .height) 0) ⌝ }
+{
+    (p.width == 0) | (p.height == 0)
+}
+
 // How many pixels a picture has whose sides are not too long.
 fn pixels(p: Picture) -> usize
     requires { ⌜ longer p ≤ 8192 ⌝ }
@@ -55,17 +63,19 @@ fn admit(parts: usize, p: Picture, samples: usize, work: usize) -> Answer
     ensures { λ r. ⌜ r ≡ admission parts p samples work ⌝ }
 {
     let side = longer(p);
+    let channels = p.channels;
     if LONGEST < side {
         return Answer::Refused(Refusal::ImageTooLarge(side));
     }
-    if !((p.channels == 3) | (p.channels == 4)) {
-        return Answer::Refused(Refusal::BadChannels(p.channels));
+    if !((channels == 3) | (channels == 4)) {
+        return Answer::Refused(Refusal::BadChannels(channels));
     }
     let pixels = pixels(p);
-    if samples != pixels * p.channels {
+    let all = pixels * channels;
+    let needed = parts * (PLANE + pixels);
+    if samples != all {
         return Answer::Refused(Refusal::BadLength(samples));
     }
-    let needed = parts * (PLANE + pixels);
     if work < needed {
         return Answer::Refused(Refusal::WorkTooSmall(needed));
     }
@@ -87,7 +97,7 @@ pub fn may_write(p: Picture, samples: usize, work: usize) -> Answer
 pub fn may_read(p: Picture, samples: usize, work: usize) -> Answer
     ensures { λ r. ⌜ r ≡ readAdmission p samples work ⌝ }
 {
-    if shorter(p) == 0 {
+    if empty(p) {
         return Answer::Refused(Refusal::NoWatermark);
     }
     admit(1, p, samples, work)

@@ -55,10 +55,8 @@ pub fn write(
 {
     let built = record::build_record(text, lock);
     let text_answer = built.answer;
-    let answer = picture::first(
-        text_answer,
-        picture::may_write(picture, samples.len(), work.len()),
-    );
+    let picture_answer = picture::may_write(picture, samples.len(), work.len());
+    let answer = picture::first(text_answer, picture_answer);
     let Answer::Done = answer else {
         return answer;
     };
@@ -84,9 +82,9 @@ fn votes_of(samples: &[u8], p: Picture, work: &mut [f32]) -> [f32; BLOCKS]
     ensures votes { λ r. ⌜ r ≡ pictureVotes p (now (samples .entry)) ⌝ }
     ensures cleared { λ _. ⌜ now (work .exit) ≡ cleared (now (work .entry)) ⌝ }
 {
-    let votes = plane_votes(samples, p, &mut work[0..PLANE]);
+    let found = plane_votes(samples, p, &mut work[0..PLANE]);
     seq::zero_floats(work);
-    votes
+    found
 }
 
 // The text of the record that the blocks' votes decode to.
