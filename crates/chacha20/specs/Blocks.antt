@@ -49,10 +49,6 @@ pub block-below : (key : List ℕ) (counter : ℕ) (nonce : List ℕ) (k : ℕ) 
 unfolding blockOf blockFrom
 block-below key counter nonce k = serialized-below _ k
 
-pub keystream-below : (key nonce : List ℕ) (p : ℕ) → keystream key nonce p < 256
-unfolding keystream
-keystream-below key nonce p = block-below key (p / 64) nonce (p % 64)
-
 -- byte j of block n
 pub keystream-in : (key nonce : List ℕ) (n j p : ℕ) → p ≡ 64 * n + j → j < 64 → keystream key nonce p ≡ getD (blockOf key n nonce) j 0
 unfolding keystream

@@ -4,12 +4,12 @@ use mathlib.Core.Path.{_≡_, refl, _∙_, ap, ap₂}
 use mathlib.Core.List.{List, _++_}
 use Prim.Native.Nat.{ℕ, zero, suc, _+_, _*_, _/_, _%_, _≤_, _<_}
 use native.Mathlib.Nat.{mod-lt, div-add-mod', add-assoc}
-use native.Mathlib.Decide.{decLe, decLt}
+use native.Mathlib.Decide.{decLe}
 use native.Mathlib.Omega.{arith}
 use lib.Arith.{bin-ind, digits-mod}
-use lib.Bits.{bitXor, differ, xor-step, xor-self, xor-shr, xor-lt}
+use lib.Bits.{bitXor, differ, xor-step, xor-self, xor-shr}
 use lib.Dec.{lit<}
-use lib.ListN.{length, getD, replicate, length-append, length-replicate, getD-replicate, List·getD-append, List·getD-eq-default}
+use lib.ListN.{length, getD, replicate, length-append, length-replicate, getD-replicate, List·getD-append}
 use lib.Seq.{getD-append-add, ext-getD}
 use borrow.Author.Tests.{le-leb, lt-leb}
 use Rattle.seq.specs.Tab.{tab, length-tab, getD-tab, tab-same}
@@ -17,7 +17,6 @@ use Rattle.chacha20.specs.declared.Applied.the-variants.{Next, Keystream
 use Rattle.chacha20.specs.Rfc8439.{keystream, xored, encrypted}
 use Rattle.chacha20.specs.Apply.{leftAt, appliedOf, bytesAfter}
 use Rattle.chacha20.specs.Lists.{tab-append}
-use Rattle.chacha20.specs.Blocks.{keystream-below}
 
 -- granted exactly where as many bytes are left
 pub applied-next : (p n : ℕ) → n ≤ leftAt p → appliedOf p n ≡ Next (p + n)
@@ -106,29 +105,8 @@ module _ (key nonce : List ℕ) where
   unfolding encrypted xored
   encrypted-zeros p n = ap (tab _) (length-replicate n 0) ∙ tab-same _ _ n (λ k h. rw (getD-replicate {A = ℕ} n k 0 0 h))
 
-  -- bytes stay bytes
-  pub encrypted-below : (p : ℕ) (bs : List ℕ) → ((k : ℕ) → getD bs k 0 < 256) → (k : ℕ) → getD (encrypted key nonce p bs) k 0 < 256
-  encrypted-below p bs h k =
-      elim (decLt k (length bs)) [
-        | yes i ↦ rw (getD-encrypted p bs k i) (xor-lt 8 (getD bs k 0) (keystream key nonce (p + k)) (h k) (keystream-below key nonce (p + k)))
-        | no o ↦ rw (List·getD-eq-default (encrypted key nonce p bs) 0 {n = k} (omega (arith, length-encrypted p bs))) (lit< tt)
-      ]
-
-  -- and so with `apply`, granted or refused
+  -- applied twice, the bytes are as they were, granted or refused
   module _ (p : ℕ) (bs : List ℕ) where
-    after-either : (P : List ℕ → Type 0) → P (encrypted key nonce p bs) → P bs → P (bytesAfter key nonce p bs)
-    after-either P e r =
-        elim (decLe (length bs) (leftAt p)) [
-          | yes h ↦ rw (after-next key nonce p bs h) e
-          | no h ↦ rw (after-end key nonce p bs (omega arith)) r
-        ]
-
-    pub length-after : length (bytesAfter key nonce p bs) ≡ length bs
-    length-after = after-either (λ (l : List ℕ). length l ≡ length bs) (length-encrypted p bs) refl
-
-    pub after-below : ((k : ℕ) → getD bs k 0 < 256) → (k : ℕ) → getD (bytesAfter key nonce p bs) k 0 < 256
-    after-below h = after-either (λ (l : List ℕ). (k : ℕ) → getD l k 0 < 256) (encrypted-below p bs h) h
-
     pub apply-twice : bytesAfter key nonce p (bytesAfter key nonce p bs) ≡ bs
     apply-twice =
         elim (decLe (length bs) (leftAt p)) [

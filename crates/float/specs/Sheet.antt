@@ -1,8 +1,7 @@
--- Worked values of the definitions, computed: the lines of the sample sheet that concern rounding, and edges that a wrong reading would miss. Assumes nothing.
+-- Worked values of the definitions, computed: edges that a wrong reading would miss. Assumes nothing.
 use mathlib.Core.Path.{_≡_, refl}
 use lib.Ieee.{binary32, binary64, ofBits}
-use Rattle.float.specs.Calls.{floor, roundAway, ceil, narrow, roundedByte}
-use Rattle.float.specs.Vote.{term}
+use Rattle.float.specs.Calls.{floor, roundAway, ceil, narrow}
 
 -- -0.3 rounds to -0, and -2.5 to -3; 0.49999997 rounds to 0; from 2^23 on every value stays
 small-negative : roundAway binary32 (ofBits binary32 0xbe99_999a) ≡ ofBits binary32 0x8000_0000
@@ -33,24 +32,6 @@ floor-tiny = refl
 ceil-small : ceil binary64 (ofBits binary64 0xbfd3_3333_3333_3333) ≡ ofBits binary64 0x8000_0000_0000_0000
 unfolding ceil ofBits
 ceil-small = refl
-
--- sample 254 with change 1.5, which is 255.5, gives 255
-top-sample : roundedByte (ofBits binary32 0x437f_8000) ≡ 255
-unfolding roundedByte ofBits
-top-sample = refl
-
--- a term is -1 at 1/2, 0 at 1/4, and at a tiny negative x, whose r is exactly 1, it is 1
-term-half : term binary32 (ofBits binary32 0x3f00_0000) ≡ ofBits binary32 0xbf80_0000
-unfolding term ofBits
-term-half = refl
-
-term-quarter : term binary32 (ofBits binary32 0x3e80_0000) ≡ ofBits binary32 0
-unfolding term ofBits
-term-quarter = refl
-
-term-tiny : term binary32 (ofBits binary32 0x8000_0001) ≡ ofBits binary32 0x3f80_0000
-unfolding term ofBits
-term-tiny = refl
 
 -- narrowing: a tie goes to the even one, and half a unit past the largest f32 is an infinity
 narrow-tie : narrow (ofBits binary64 0x3ff0_0000_1000_0000) ≡ ofBits binary32 0x3f80_0000

@@ -1,5 +1,5 @@
 -- What it means that a picture is admitted: its sides, channels, samples and work area are as they should be. Assumes nothing.
-use mathlib.Core.Path.{_≡_, refl, sym, ap, subst}
+use mathlib.Core.Path.{_≡_, refl, sym, subst}
 use mathlib.Core.Bool.{Bool, true, false, not, cond, _||_}
 use Prim.Native.Nat.{ℕ, _*_, _≤_, _<_}
 use native.Mathlib.Nat.{mul-le-mul-right}

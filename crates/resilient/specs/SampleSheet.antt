@@ -20,7 +20,6 @@ use Rattle.block.specs.Sheet.{marked-sheet, term-sheet, rest-sheet}
 use Rattle.window.specs.Sheet.{Line, tap, halved, doubled}
 use Rattle.resample.specs.Samples.{changedRow}
 use Rattle.resample.specs.Sheet.{change, written}
-use Rattle.picture.specs.declared.Picture.{Picture}
 use Rattle.picture.specs.Admission.{shorter, longer, roomOf, admission, writeAdmission, first}
 use Rattle.resilient.specs.Resilient.{writeAnswer}
 

@@ -5,14 +5,12 @@
 --   read-by-votes    reading from samples is reading from the votes of the picture
 -- That a refused write leaves samples and work area as they were is `written-refused` in Left.antt. Assumes nothing.
 use mathlib.Core.Path.{_≡_, refl, sym, ap, _∙_, subst}
-use mathlib.Core.Bool.{Bool, true, false}
+use mathlib.Core.Bool.{true, false}
 use mathlib.Core.List.{List, [], _∷_}
 use Prim.Native.Nat.{ℕ, zero, suc, _+_, _*_, _≤_, _<_}
-use native.Mathlib.Nat.{lt-irrefl}
 use native.Mathlib.Omega.{arith}
-use lib.Dec.{eqb, ltb}
 use lib.ListN.{length, getD}
-use lib.Ieee.{Float, nan, le}
+use lib.Ieee.{Float, nan}
 use borrow.Author.Tests.{eq-eqb, le-ltb}
 use Rattle.float.specs.Calls.{inUnit}
 use Rattle.record.specs.declared.Answer.{Answer}

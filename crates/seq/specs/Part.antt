@@ -1,10 +1,10 @@
 -- A part of a list put through a function, the rest as it was: what a `&mut s[a..a + n]` leaves. Assumes nothing.
-use mathlib.Core.Path.{_≡_, sym, _∙_, ap}
+use mathlib.Core.Path.{_≡_, _∙_, ap}
 use mathlib.Core.List.{List, _++_}
 use Prim.Native.Nat.{ℕ, _+_, _≤_, _<_}
 use native.Mathlib.Omega.{arith}
-use lib.ListN.{length, take, drop, getD, length-append, length-take, length-drop, List·getD-append}
-use lib.Seq.{drop-drop, length-take-le, take-at, drop-at, drop-append-le, getD-append-add, getD-drop, getD-take}
+use lib.ListN.{length, take, drop, getD, length-append, length-drop, List·getD-append}
+use lib.Seq.{drop-drop, length-take-le, getD-append-add, getD-drop, getD-take}
 
 module _ {A : Type 0} where
   -- the n places of d from a on, put through f
