@@ -10,8 +10,11 @@ use float::round_f32;
 use matrix::MATRIX;
 use seq::copy_floats;
 ghost use mathlib.Core.Path.{_≡_};
+ghost use mathlib.Core.List.{[], _∷_};
 ghost use Prim.Native.Nat.{_≤_, _<_};
-ghost use lib.ListN.{length};
+ghost use lib.ListN.{length, getD};
+ghost use lib.Ieee.{nan, binary32};
+ghost use Rattle.float.specs.Vote.{meanOfFour};
 ghost use Rattle.block.specs.Grid.{grid, cell, lineOf};
 ghost use Rattle.block.specs.Matrix.{entry, turnedEntry};
 ghost use Rattle.block.specs.Transform.{forwardOf, inverseOf};
@@ -127,16 +130,23 @@ fn vote_term(v: f32, u: f32) -> f32
     1.0 - 4.0 * min_f32(r, 1.0 - r)
 }
 
+// The mean of four terms, summed in their order from -0.0.
+fn mean(a: f32, b: f32, c: f32, d: f32) -> f32
+    ensures { λ r. ⌜ r ≡ meanOfFour binary32 (λ k. getD (a ∷ b ∷ c ∷ d ∷ []) k nan) ⌝ }
+{
+    (-0.0f32 + a + b + c + d) / 4.0
+}
+
 // What a transformed block says of its bit: from 1, a clear 0, to -1, a clear 1, for samples of a picture.
 pub fn block_vote(values: &[f32; 64], u: [f32; 4]) -> f32
     ensures { λ r. ⌜ r ≡ voteOf u (now (values .entry)) ⌝ }
 {
-    let sum = -0.0f32
-        + vote_term(values[9], u[0])
-        + vote_term(values[10], u[1])
-        + vote_term(values[17], u[2])
-        + vote_term(values[18], u[3]);
-    sum / 4.0
+    mean(
+        vote_term(values[9], u[0]),
+        vote_term(values[10], u[1]),
+        vote_term(values[17], u[2]),
+        vote_term(values[18], u[3]),
+    )
 }
 
 // Where line r of block b starts in the plane.

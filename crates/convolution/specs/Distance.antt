@@ -12,7 +12,7 @@ use lib.Ieee.Fits.{and-l, and-r}
 use borrow.Author.Tests.{eqb-true, eqb-false}
 use lib.ListN.{length, getD}
 use lib.Bits.{differ, bitXor, xor-lt, xor-self}
-use Rattle.convolution.specs.Damage.{unlike, apart}
+use Rattle.convolution.specs.Damage.{unlike}
 use Rattle.convolution.specs.Ccsds131.{parity, out1, out2, register, next, code, run, Bits, one}
 use Rattle.convolution.specs.Linear.{parity-lt, parity-xor, register-xor, next-xor}
 

@@ -40,13 +40,13 @@ module _ {A : Type 0} where
 
 -- ---- traced back, one step more
 
-pub orig-at : (ds : List ℕ) (t j : ℕ) → t < length ds → j ≡ origR (drop (suc t) ds) 0 → origR (drop t ds) 0 ≡ (2 * j + getD ds t 0 / 2 ^ j % 2) % 64
+pub orig-at : (ds : List ℕ) (k t j : ℕ) → t < length ds → j ≡ origR (drop (suc t) ds) k → origR (drop t ds) k ≡ (2 * j + getD ds t 0 / 2 ^ j % 2) % 64
 unfolding origR
-orig-at ds t j h e = rw (drop-cons ds t 0 h, e) refl
+orig-at ds k t j h e = rw (drop-cons ds t 0 h, e) refl
 
-pub path-at : (ds : List ℕ) (t j : ℕ) → t < length ds → j ≡ origR (drop (suc t) ds) 0 → pathR (drop t ds) 0 ≡ j / 32 ∷ pathR (drop (suc t) ds) 0
+pub path-at : (ds : List ℕ) (k t j : ℕ) → t < length ds → j ≡ origR (drop (suc t) ds) k → pathR (drop t ds) k ≡ j / 32 ∷ pathR (drop (suc t) ds) k
 unfolding pathR
-path-at ds t j h e = rw (drop-cons ds t 0 h, e) refl
+path-at ds k t j h e = rw (drop-cons ds t 0 h, e) refl
 
 -- ---- a word, one bit more
 

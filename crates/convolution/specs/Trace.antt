@@ -106,9 +106,9 @@ module _ {M W : Type 0} (o : Sums M W) where
   rows-more m (x ∷ y ∷ vs) (suc n) v w h = ap (λ (ds : List ℕ). packed (oddAt o m x y) 64 ∷ ds) (rows-more (step o m x y) vs n v w (omega arith))
 
 -- what the code's two loops make, put together
-pub decoded-by : {M W : Type 0} (o : Sums M W) (vs : List W) (ds bs : List ℕ) → ds ≡ rows o (starting o) vs → bs ≡ pathR ds 0 → bs ≡ decoded o vs
+pub decoded-by : {M W : Type 0} (o : Sums M W) (vs : List W) (ds bs : List ℕ) (end : ℕ) → end ≡ 0 → ds ≡ rows o (starting o) vs → bs ≡ pathR ds end → bs ≡ decoded o vs
 unfolding decoded
-decoded-by o vs ds bs p q = q ∙ ap (λ (x : List ℕ). pathR x 0) p ∙ path-rows o (starting o) vs 0 (omega arith)
+decoded-by o vs ds bs end e p q = q ∙ ap₂ pathR p e ∙ path-rows o (starting o) vs 0 (omega arith)
 
 pub decoded-bits : {M W : Type 0} (o : Sums M W) (vs : List W) → Bits (decoded o vs)
 unfolding decoded

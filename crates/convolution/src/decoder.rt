@@ -3,8 +3,8 @@
 ghost use mathlib.Core.Path.{_≡_};
 ghost use mathlib.Core.Bool.{true};
 ghost use Prim.Native.Nat.{_+_, _*_, _/_, _%_, _^_, _<_, _≤_};
-ghost use lib.ListN.{length};
-ghost use lib.Ieee.{neg, inf, lt};
+ghost use lib.ListN.{length, getD};
+ghost use lib.Ieee.{nan, neg, inf, lt};
 ghost use Rattle.convolution.specs.Ccsds131.{Bits};
 ghost use Rattle.convolution.specs.Decoder.{floats, pick, voted, bestAt, oddAt, step, starting, decoded, strength};
 ghost use Rattle.convolution.specs.Packed.{packed};
@@ -32,12 +32,15 @@ pub fn decode(soft: &[f32; 748]) -> Decoded
     ensures { λ r. ⌜ (r .bytes ≡ recordOf 46 (decoded floats (now (soft .entry)))) × (r .metric ≡ strength floats (now (soft .entry))) ⌝ }
 {
     let mut from_odd = [0u64; 374];
-    let metric = forward(soft, &mut from_odd);
+    let end = forward(soft, &mut from_odd);
     let mut bits = [0u8; 374];
-    backward(&from_odd, &mut bits);
+    backward(&from_odd, end.state, &mut bits);
     let mut bytes = [0u8; 46];
     pack(&bits, &mut bytes);
-    Decoded { bytes, metric }
+    Decoded {
+        bytes,
+        metric: end.metric,
+    }
 }
 
 fn minus_infinity() -> f32
@@ -46,10 +49,16 @@ fn minus_infinity() -> f32
     -1.0f32 / 0.0f32
 }
 
-// All steps: for each, which states were reached from their odd predecessor; and the metric with which state 0 ends.
-fn forward(soft: &[f32], decisions: &mut [u64]) -> f32
+// The state in which the path ends, and its metric.
+pub struct Ended {
+    pub state: usize,
+    pub metric: f32,
+}
+
+// All steps: for each, which states were reached from their odd predecessor; and the end of the path.
+fn forward(soft: &[f32], decisions: &mut [u64]) -> Ended
     requires { ⌜ length (now soft) ≡ 2 * length (now decisions) ⌝ }
-    ensures { λ r. ⌜ (r ≡ strength floats (now (soft .entry))) × (now (decisions .exit) ≡ rows floats (starting floats) (now (soft .entry))) ⌝ }
+    ensures { λ r. ⌜ (r .state ≡ 0) × (r .metric ≡ strength floats (now (soft .entry))) × (now (decisions .exit) ≡ rows floats (starting floats) (now (soft .entry))) ⌝ }
 {
     let mut metric = [minus_infinity(); 64];
     metric[0] = 0.0;
@@ -60,7 +69,17 @@ fn forward(soft: &[f32], decisions: &mut [u64]) -> f32
         decisions[t] = s.odd;
         t += 1;
     }
-    metric[0]
+    end_of(&metric)
+}
+
+// State 0, to which the six zeros after the record lead, whatever the metrics of the other states.
+fn end_of(metric: &[f32; 64]) -> Ended
+    ensures { λ r. ⌜ (r .state ≡ 0) × (r .metric ≡ getD (now (metric .entry)) 0 nan) ⌝ }
+{
+    Ended {
+        state: 0,
+        metric: metric[0],
+    }
 }
 
 // One step: the next metrics, and a bit for each state that says whether its odd predecessor won.
@@ -147,12 +166,12 @@ fn bit_of(d: u64, k: usize) -> usize
     ((d >> k) % 2) as usize
 }
 
-// Traceback: the bits on the way back from state 0.
-fn backward(decisions: &[u64], bits: &mut [u8])
-    requires { ⌜ length (now bits) ≡ length (now decisions) ⌝ }
-    ensures { λ _. ⌜ now (bits .exit) ≡ pathR (now (decisions .entry)) 0 ⌝ }
+// Traceback: the bits on the way back from the state in which the path ends.
+fn backward(decisions: &[u64], end: usize, bits: &mut [u8])
+    requires { ⌜ (end < 64) × (length (now bits) ≡ length (now decisions)) ⌝ }
+    ensures { λ _. ⌜ now (bits .exit) ≡ pathR (now (decisions .entry)) end ⌝ }
 {
-    let mut state = 0usize;
+    let mut state = end;
     let mut t = decisions.len();
     while 0 < t {
         t -= 1;

@@ -1,14 +1,14 @@
 -- The dither. Document 01: the layout's key, nonce 1 then eleven zeros, 4,096 little-endian words; each is the word shifted right by 8, divided by 2^24. Block b, coefficient k uses number 4 b + k. Assumes nothing.
 use mathlib.Core.Path.{_≡_, refl, sym, ap, _∙_, subst}
 use mathlib.Core.Bool.{false}
-use mathlib.Core.List.{List, [], _∷_, _++_}
+use mathlib.Core.List.{List, _∷_}
 use Prim.Native.Nat.{ℕ, _+_, _*_, _/_, _%_, _^_, _≤_, _<_}
-use native.Mathlib.Nat.{mul-one, one-mul, zero-lt-suc}
+use native.Mathlib.Nat.{mul-one, zero-lt-suc}
 use native.Mathlib.Omega.{arith}
 use lib.Dec.{lit≤, lit<}
 use lib.IntN.{pos}
 use lib.ListN.{getD, replicate}
-use lib.Ieee.{Float, binary32, round, div, ofInt, prec}
+use lib.Ieee.{Float, binary32, round, div, ofInt}
 use lib.Ieee.Exact.{HasValue}
 use lib.Ieee.Back.{round-whole}
 use Rattle.chacha20.specs.Rfc8439.{word, blockOf}

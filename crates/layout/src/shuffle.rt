@@ -3,7 +3,7 @@
 use chacha20::Applied;
 use chacha20::Position;
 ghost use mathlib.Core.Path.{_≡_};
-ghost use Prim.Native.Nat.{_+_, _≤_, _<_, min};
+ghost use Prim.Native.Nat.{_+_, _^_, _≤_, _<_, min};
 ghost use mathlib.Core.Bool.{cond};
 ghost use lib.Dec.{leb, ltb};
 ghost use lib.ListN.{length, take, getD};
@@ -68,11 +68,19 @@ fn permute(key: &[u8; 32], count: usize, list: &mut [u16]) -> usize
         let Drawn::Found(r, next) = draw(key, at, (list.len() - i) as u64) else {
             return i;
         };
-        exchange(list, i, i + r as usize);
+        exchange(list, i, place_of(i, r));
         at = next;
         i += 1;
     }
     i
+}
+
+// The place that entry i is exchanged with, where r was drawn: itself or a later one.
+fn place_of(i: usize, r: u64) -> usize
+    requires { ⌜ i + r < 2 ^ 64 ⌝ }
+    ensures { λ p. ⌜ p ≡ i + r ⌝ }
+{
+    i + r as usize
 }
 
 fn exchange(list: &mut [u16], i: usize, j: usize)

@@ -1,11 +1,11 @@
-// Replays the Rust's stored answers for the crates `window` and `resample`: windows, the weights of source numbers, and
-// parts of the planes of small pictures. A case is two strings of bytes, the operand and the result, in which a number has
+// Replays the Rust's stored answers for the crates `window` and `resample`: windows, the weights of source numbers, parts
+// of the planes of small pictures, and parts of pictures with a change put onto them. A case is two strings of bytes, the operand and the result, in which a number has
 // its high byte first; floats stand by their bits, and whole numbers that have a sign as f64.
 use lists::Field;
 use std::num::nearest_i64_to_f64;
 use window::Weight;
 use window::Window;
-ghost use Prim.Native.Nat.{_+_, _^_, _≤_, _<_};
+ghost use Prim.Native.Nat.{_+_, _*_, _^_, _≤_, _<_};
 ghost use mathlib.Core.Path.{_≡_};
 ghost use lib.ListN.{length};
 ghost use Rattle.lists.specs.Fields.{Within};
@@ -14,6 +14,7 @@ enum Stage {
     Window,
     Weight,
     Plane,
+    Change,
 }
 
 fn wide(byte: u8) -> u64
@@ -176,6 +177,152 @@ fn is_part(raw: &[u8], count: usize, expected: &[u8]) -> bool
         && same(&plane[place..end], expected)
 }
 
+// The values of a list one after the other, and again from its first.
+fn fill_change(raw: &[u8], values: usize, change: &mut [f32])
+    requires { ⌜ (0 < values) × (4 * values ≤ length (now raw)) × (values ≤ 255) ⌝ }
+    ensures { λ _. ⌜ length (now (change .exit)) ≡ length (now (change .entry)) ⌝ }
+{
+    for q in 0..change.len() {
+        change[q] = float::f32_from_bits(word(raw, 4 * (q % values)) as u32);
+    }
+}
+
+// The same of samples.
+fn fill_samples(raw: &[u8], samples: &mut [u8])
+    requires { ⌜ 0 < length (now raw) ⌝ }
+    ensures { λ _. ⌜ length (now (samples .exit)) ≡ length (now (samples .entry)) ⌝ }
+{
+    for p in 0..samples.len() {
+        samples[p] = raw[p % raw.len()];
+    }
+}
+
+fn same_samples(samples: &[u8], expected: &[u8]) -> bool
+    requires { ⌜ (64 ≤ length (now samples)) × (64 ≤ length (now expected)) ⌝ }
+{
+    for i in 0..64usize {
+        if samples[i] != expected[i] {
+            return false;
+        }
+    }
+    true
+}
+
+fn samples_in(width: usize, height: usize, channels: usize) -> usize
+    requires { ⌜ (width ≤ 512) × (height ≤ 512) × (channels ≤ 4) ⌝ }
+    ensures { λ r. ⌜ r ≡ width * channels * height ⌝ }
+{
+    width * channels * height
+}
+
+// The change put onto a picture of the pattern, whose samples from `place` to `end` are then as expected.
+fn full_change(
+    pattern: &[u8],
+    change: &[f32],
+    width: usize,
+    height: usize,
+    channels: usize,
+    samples: &mut [u8],
+    place: usize,
+    end: usize,
+    expected: &[u8],
+) -> bool
+    requires { ⌜ (256 ≤ width) × (width ≤ 512) × (256 ≤ height) × (height ≤ 512) × (3 ≤ channels) × (channels ≤ 4) × (length (now samples) ≡ width * channels * height) × (length (now change) ≡ 65536) × (0 < length (now pattern)) × (place + 64 ≡ end) × (64 ≤ length (now expected)) ⌝ }
+{
+    fill_samples(pattern, samples);
+    resample::up::change_samples(change, width, height, channels, samples);
+    if samples.len() < end {
+        return false;
+    }
+    same_samples(&samples[place..end], expected)
+}
+
+fn sized_change(
+    pattern: &[u8],
+    change: &[f32],
+    width: usize,
+    height: usize,
+    channels: usize,
+    place: usize,
+    expected: &[u8],
+) -> bool
+    requires { ⌜ (256 ≤ width) × (width ≤ 512) × (256 ≤ height) × (height ≤ 512) × (3 ≤ channels) × (channels ≤ 4) × (length (now change) ≡ 65536) × (0 < length (now pattern)) × (place < 2 ^ 32) × (64 ≤ length (now expected)) ⌝ }
+{
+    let n = samples_in(width, height, channels);
+    let end = place + 64;
+    let mut samples = lists::room();
+    if samples.len() < n {
+        return false;
+    }
+    full_change(
+        pattern,
+        change,
+        width,
+        height,
+        channels,
+        &mut samples[0..n],
+        place,
+        end,
+        expected,
+    )
+}
+
+fn made_change(
+    pattern: &[u8],
+    change: &[f32],
+    width: usize,
+    height: usize,
+    channels: usize,
+    place: usize,
+    expected: &[u8],
+) -> bool
+    requires { ⌜ (length (now change) ≡ 65536) × (0 < length (now pattern)) × (place < 2 ^ 32) × (64 ≤ length (now expected)) ⌝ }
+{
+    if 256 <= width
+        && width <= 512
+        && 256 <= height
+        && height <= 512
+        && 3 <= channels
+        && channels <= 4
+    {
+        return sized_change(pattern, change, width, height, channels, place, expected);
+    }
+    false
+}
+
+// Width, height, channels, a place in the samples, the number of values of the change, the values and the samples; the 64
+// samples from this place on.
+fn is_changed(raw: &[u8], count: usize, expected: &[u8]) -> bool
+    requires { ⌜ (10 ≤ length (now raw)) × (64 ≤ length (now expected)) ⌝ }
+{
+    let width = pair(raw[0], raw[1]) as usize;
+    let height = pair(raw[2], raw[3]) as usize;
+    let channels = wide(raw[4]) as usize;
+    let place = word(raw, 5) as usize;
+    let values = wide(raw[9]) as usize;
+    let start = 10 + 4 * values;
+    if values == 0 {
+        return false;
+    }
+    if count <= start {
+        return false;
+    }
+    if raw.len() < count {
+        return false;
+    }
+    let mut change = room();
+    fill_change(&raw[10..start], values, &mut change);
+    made_change(
+        &raw[start..count],
+        &change,
+        width,
+        height,
+        channels,
+        place,
+        expected,
+    )
+}
+
 fn agrees(text: &[u8], stage: Stage, operand: Field, result: Field) -> bool
     requires { ⌜ Within (now text) operand × Within (now text) result ⌝ }
 {
@@ -192,6 +339,7 @@ fn agrees(text: &[u8], stage: Stage, operand: Field, result: Field) -> bool
         Stage::Window => from == 6 && to == 40 && is_window(&raw, &expected),
         Stage::Weight => from == 14 && to == 5 && is_weight(&raw, &expected),
         Stage::Plane => to == 256 && is_part(&raw, from, &expected),
+        Stage::Change => to == 64 && is_changed(&raw, from, &expected),
     }
 }
 
@@ -224,4 +372,5 @@ fn main() {
     list(b"window.txt", Stage::Window);
     list(b"weight.txt", Stage::Weight);
     list(b"plane.txt", Stage::Plane);
+    list(b"change.txt", Stage::Change);
 }

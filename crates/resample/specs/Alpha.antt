@@ -1,10 +1,8 @@
 -- A fourth channel is untouched: whatever the change, the fourth sample of each pixel is as it was. Assumes nothing.
-use mathlib.Core.Path.{_≡_, sym, _∙_, ap}
-use mathlib.Core.Bool.{false}
+use mathlib.Core.Path.{_≡_, _∙_, ap}
 use mathlib.Core.List.{List}
 use Prim.Native.Nat.{ℕ, _+_, _*_, _%_, _<_}
 use native.Mathlib.Omega.{arith}
-use lib.Dec.{ltb}
 use lib.ListN.{getD}
 use lib.Seq.{getD-drop, getD-take}
 use lib.Ieee.{Float, nan}

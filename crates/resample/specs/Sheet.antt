@@ -1,6 +1,6 @@
 -- The sample sheet's line on a written sample, computed: 254 with a change of 1.5 gives 255, and a fourth channel stays. Assumes nothing.
 use mathlib.Core.Path.{_≡_, refl}
-use mathlib.Core.List.{List, [], _∷_}
+use mathlib.Core.List.{[], _∷_}
 use Prim.Native.Nat.{ℕ}
 use lib.Ieee.{Float, binary32, ofBits, ofInt, round, add, toUnsigned}
 use Rattle.seq.specs.Tab.{tab}

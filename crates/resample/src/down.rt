@@ -23,7 +23,7 @@ use window::nth;
 use window::taps;
 
 // The luma of a row of pixels: its samples are the picture's from the row's first to its last.
-fn luma(row: &[u8], channels: usize, out: &mut [f32])
+pub fn luma(row: &[u8], channels: usize, out: &mut [f32])
     requires { ⌜ (3 ≤ channels) × (channels ≤ 4) × (length (now row) ≡ length (now out) * channels) × (length (now out) ≤ 8192) ⌝ }
     ensures { λ _. ⌜ now (out .exit) ≡ tab (lumaAt channels (now (row .entry))) (length (now (out .entry))) ⌝ }
 {
@@ -152,7 +152,8 @@ fn add_window(
     ensures row { λ _. ⌜ now (sum .exit) ≡ sumRows 256 (narrowRow (length (now (line .entry))) channels (now (samples .entry))) (tapsOf w height) ⌝ }
 {
     let first = w.first;
-    let count = count(first, w.last);
+    let last = w.last;
+    let count = count(first, last);
     for k in 0..count {
         let j = nth(first, k);
         let Weight::Of(q) = w.weight(j) else {

@@ -108,7 +108,8 @@ fn add_window(
     ensures row { λ _. ⌜ now (sum .exit) ≡ sumRows (length (now (sum .entry))) (wideRow (length (now (sum .entry))) (now (change .entry))) (tapsOf w 256) ⌝ }
 {
     let first = w.first;
-    let count = count(first, w.last);
+    let last = w.last;
+    let count = count(first, last);
     for k in 0..count {
         let j = nth(first, k);
         let Weight::Of(q) = w.weight(j) else {

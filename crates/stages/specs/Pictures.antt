@@ -1,4 +1,4 @@
--- A window as two lists, its numbers and its parts, a weight as whether there is one and its value, which pictures have a plane, and which take a change of it. Assumes nothing.
+-- A window as two lists, its numbers and its parts, a weight as whether there is one and its value, which rows of samples have a luma, which pictures have a plane, and which take a change of it. Assumes nothing.
 use mathlib.Core.Path.{_≡_, refl, sym, subst}
 use mathlib.Core.Bool.{Bool, true, false, cond, _&&_, false≢true}
 use mathlib.Core.List.{List, [], _∷_}
@@ -13,7 +13,8 @@ use Rattle.window.specs.Window.{sized}
 use Rattle.window.specs.declared.Window.{Window}
 use Rattle.window.specs.declared.Weight.{Weight}
 use Rattle.window.specs.declared.Weight.the-variants.{Of, Nothing}
-use Rattle.resample.specs.Samples.{Sized, planeOf, changedOf}
+use Rattle.seq.specs.Tab.{tab}
+use Rattle.resample.specs.Samples.{Sized, lumaAt, planeOf, changedOf}
 
 abbrev pub numbersOf : Window → List ℤ
 numbersOf w = w .first ∷ (w .last ∷ [])
@@ -32,6 +33,13 @@ weightValue Nothing = ofBits binary32 0
 
 abbrev pub hasSides : ℕ → ℕ → ℕ → Bool
 hasSides width height channels = sized width && (sized height && (leb 3 channels && leb channels 4))
+
+-- of so many samples, so many pixels: a picture of one row
+abbrev pub hasLuma : ℕ → ℕ → ℕ → Bool
+hasLuma row channels pixels = hasSides pixels 1 channels && eqb row (pixels * channels)
+
+unfoldable pub lumaInto : ℕ → List ℕ → List Float → List Float
+lumaInto channels row out = cond (hasLuma (length row) channels (length out)) (tab (lumaAt channels row) (length out)) out
 
 -- of so many samples, a plane of so many values
 abbrev pub hasPlane : ℕ → ℕ → ℕ → ℕ → ℕ → Bool
@@ -83,6 +91,12 @@ module _ (width height channels : ℕ) (e : hasSides width height channels ≡ t
 
   pub is-sized : (samples : List ℕ) → length samples ≡ width * channels * height → Sized width height channels samples
   is-sized samples f = record { wide = wide .0; width-most = wide .1; high = high .0; height-most = high .1; three = some .0; four = some .1; full = f }
+
+pub luma-fits : (row channels pixels : ℕ) → hasLuma row channels pixels ≡ true → (3 ≤ channels) × (channels ≤ 4) × (row ≡ pixels * channels) × (pixels ≤ 8192)
+luma-fits row channels pixels e =
+    let b = both (hasSides pixels 1 channels) (eqb row (pixels * channels)) e in
+    let s = some pixels 1 channels (b .0) in
+    (s .0, s .1, eqb→eq row (pixels * channels) (subst T (sym (b .1)) tt), wide pixels 1 channels (b .0) .1)
 
 module _ (width height channels : ℕ) (samples : List ℕ) (plane : ℕ) (e : hasPlane width height channels (length samples) plane ≡ true) where
   lengths : (eqb plane 65536 ≡ true) × (eqb (length samples) (width * channels * height) ≡ true)

@@ -5,7 +5,7 @@ ghost use mathlib.Core.Path.{_≡_};
 ghost use Prim.Native.Nat.{_*_};
 ghost use lib.ListN.{length};
 ghost use Rattle.window.specs.Window.{sized, windowOf, weightOf};
-ghost use Rattle.stages.specs.Pictures.{numbersOf, partsOf, reached, weightValue, hasSides, hasPlane, planeInto, hasChange, changeInto};
+ghost use Rattle.stages.specs.Pictures.{numbersOf, partsOf, reached, weightValue, hasSides, hasLuma, lumaInto, hasPlane, planeInto, hasChange, changeInto};
 
 // The first and the last source number; centre, support and sum.
 #[no_mangle]
@@ -71,6 +71,29 @@ fn has_sides(width: usize, height: usize, channels: usize) -> bool
     } else {
         false
     }
+}
+
+fn has_luma(row: usize, channels: usize, pixels: usize) -> bool
+    ensures { λ r. ⌜ r ≡ hasLuma row channels pixels ⌝ }
+{
+    if has_sides(pixels, 1, channels) {
+        row == pixels * channels
+    } else {
+        false
+    }
+}
+
+// Whether the samples are a row of a picture and there is room for exactly its pixels' luma, which is then theirs.
+#[no_mangle]
+pub extern "C" fn vk_luma(row: &[u8], channels: usize, out: &mut [f32]) -> bool
+    ensures answer { λ r. ⌜ r ≡ hasLuma (length (now (row .entry))) channels (length (now (out .entry))) ⌝ }
+    ensures lent { λ _. ⌜ now (out .exit) ≡ lumaInto channels (now (row .entry)) (now (out .entry)) ⌝ }
+{
+    let done = has_luma(row.len(), channels, out.len());
+    if done {
+        resample::down::luma(row, channels, out);
+    }
+    done
 }
 
 fn has_plane(width: usize, height: usize, channels: usize, samples: usize, plane: usize) -> bool

@@ -6,3 +6,4 @@ pub mod Taps
 pub mod Reach
 pub mod Weights
 pub mod Sheet
+pub mod Extent

@@ -100,11 +100,11 @@ round-between f a c r C R H h =
       | inr v ↦ most-between f (round f false a c) (grid f a c) r R v (size-within f (round f false a c) (pos (grid f a c)) r (record { sign = false; size = grid f a c; value = v; whole = refl }) w)
     ]
 
-whole-value : (n : ℕ) → n ≤ longest → HasValue (ofInt binary64 (pos n)) false n 1
+pub whole-value : (n : ℕ) → n ≤ longest → HasValue (ofInt binary64 (pos n)) false n 1
 unfolding ofInt
 whole-value n h = round-whole binary64 false n (le-trans h (lit≤ tt))
 
-scale-is : (src dst : ℕ) → src ≤ longest → 0 < dst → dst ≤ longest → scaleOf src dst ≡ round binary64 false src dst
+pub scale-is : (src dst : ℕ) → src ≤ longest → 0 < dst → dst ≤ longest → scaleOf src dst ≡ round binary64 false src dst
 unfolding scaleOf
 scale-is src dst B C D =
     div-value-at binary64 (ofInt binary64 (pos src)) (ofInt binary64 (pos dst)) false false src 1 dst 1 (zero-lt-suc 0) C (zero-lt-suc 0) (whole-value src B) (whole-value dst D)
@@ -132,11 +132,11 @@ value-within nan n k l v = v
 value-within (inf s) n k l v = v
 value-within (fin s m e) n k l v = le-trans (le-of-eq (v .1)) (mul-le-mul-right _ l)
 
-scale-within : (src dst r : ℕ) → src ≤ longest → 0 < dst → dst ≤ longest → Holds binary64 r 1 → src ≤ r * dst → Within (scaleOf src dst) r 1
+pub scale-within : (src dst r : ℕ) → src ≤ longest → 0 < dst → dst ≤ longest → Holds binary64 r 1 → src ≤ r * dst → Within (scaleOf src dst) r 1
 scale-within src dst r B C D H h =
     subst (λ (z : Float). Within z r 1) (sym (scale-is src dst B C D)) (round-within binary64 false src dst r 1 C (zero-lt-suc 0) H (le-trans (le-of-eq (mul-one src)) h))
 
-longest-times : (src dst : ℕ) → src ≤ longest → 0 < dst → src ≤ longest * dst
+pub longest-times : (src dst : ℕ) → src ≤ longest → 0 < dst → src ≤ longest * dst
 longest-times src dst B C = le-trans B (le-trans (le-of-eq (sym (mul-one longest))) (mul-le-mul (le-refl longest) C))
 
 pub support-within : (src dst : ℕ) → src ≤ longest → 0 < dst → dst ≤ longest → Within (supportOf src dst) longest 1

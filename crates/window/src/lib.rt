@@ -70,7 +70,8 @@ impl Window {
         ensures { λ r. ⌜ r ≡ sumOf self (numbers (self .first) (self .last)) ⌝ }
     {
         let first = self.first;
-        let count = count(first, self.last);
+        let last = self.last;
+        let count = count(first, last);
         let mut sum = 0.0f64;
         for k in 0..count {
             let t = self.tent(nth(first, k));
@@ -183,7 +184,8 @@ fn push(w: Window, src: usize, n: usize, index: &mut [u16], weight: &mut [f32]) 
     ensures with { λ _. ⌜ now (weight .exit) ≡ paste (now (weight .entry)) n (weights (tapsOf w src)) (length (tapsOf w src)) ⌝ }
 {
     let first = w.first;
-    let count = count(first, w.last);
+    let last = w.last;
+    let count = count(first, last);
     let mut at = n;
     for k in 0..count {
         let j = nth(first, k);

@@ -10,6 +10,7 @@ mod faults;
 mod float;
 mod layout;
 mod lent;
+mod luma;
 mod ours;
 mod plane;
 mod record;
@@ -26,7 +27,7 @@ use tally::Tally;
 type Stage = fn(&mut Random, u64) -> Tally;
 
 /// The stages in the order of the crates.
-const STAGES: [(&str, Stage); 11] = [
+const STAGES: [(&str, Stage); 12] = [
     ("float", float::compare),
     ("crc32", crc32::compare),
     ("chacha20", chacha20::compare),
@@ -36,6 +37,7 @@ const STAGES: [(&str, Stage); 11] = [
     ("convolution", convolution::compare),
     ("block", block::compare),
     ("window", window::compare),
+    ("luma", luma::compare),
     ("plane", plane::compare),
     ("change", change::compare),
 ];

@@ -83,6 +83,8 @@ ours! {
     vk_window(usize, usize, usize, &mut [i64; 2], &mut [f64; 3]);
     // The same and a source number; whether it has a weight, and the weight or 0.
     vk_weight(usize, usize, usize, i64, &mut f32) -> bool;
+    // A row of samples, channels, and the luma of its pixels; whether it is a picture's.
+    vk_luma(*const u8, usize, usize, *mut f32, usize) -> bool;
     // Samples, width, height, channels, and the plane; whether they are a picture's.
     vk_plane(*const u8, usize, usize, usize, usize, *mut f32, usize) -> bool;
     // A change of the plane, width, height, channels, and the samples; whether they are those of a picture no smaller.

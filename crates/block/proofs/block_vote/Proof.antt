@@ -1,6 +1,5 @@
 -- The four terms put in their places. Assumes nothing.
 use borrow.Author.Needs.{needs}
-use lib.Ieee.{neg, ofBits}
 use Rattle.seq.specs.Sum.{sumTo}
 use Rattle.float.specs.Vote.{meanOfFour}
 use Rattle.block.specs.Soft.{voteOf}
@@ -43,10 +42,13 @@ array-read-vote-term-4 c = search needs
 vote-term-requires-4 : tie.Need-vote-term-requires-4
 vote-term-requires-4 c κs = search needs
 
+mean-requires : tie.Need-mean-requires
+mean-requires c κs = search needs
+
 returns : tie.Need-returns
-unfolding voteOf meanOfFour sumTo neg ofBits
+unfolding voteOf meanOfFour sumTo
 returns c =
-    rw (c .vote-term4 .ensures, c .before .before .vote-term3 .ensures, c .before .before .before .before .vote-term2 .ensures, c .before .before .before .before .before .before .vote-term .ensures)
+    rw (c .mean .ensures, c .before .vote-term4 .ensures, c .before .before .before .vote-term3 .ensures, c .before .before .before .before .before .vote-term2 .ensures, c .before .before .before .before .before .before .before .vote-term .ensures)
 
 pub block-vote-spec : {M : Type 1} → statement M
 block-vote-spec =
@@ -64,4 +66,5 @@ block-vote-spec =
     element-copy-out-vote-term-4
     array-read-vote-term-4
     vote-term-requires-4
+    mean-requires
     returns)

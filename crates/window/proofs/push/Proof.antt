@@ -4,7 +4,7 @@ use mathlib.Core.List.{[], _∷_}
 use Prim.Native.Nat.{_+_, _-_, _^_, _≤_, _<_}
 use native.Mathlib.Nat.{add-zero}
 use native.Mathlib.Omega.{arith}
-use lib.IntN.{ℤ, pos, _+ℤ_}
+use lib.IntN.{pos, _+ℤ_}
 use lib.ListN.{length, getD, length-append, length-set}
 use lib.Seq.{paste, paste-zero}
 use mir.Syntax.{w64}
@@ -20,11 +20,11 @@ use Rattle.window.proofs.push.Statement.{statement}
 use Rattle.window.proofs.push.Tie as tie
 
 abbrev Inv-loop : tie.InvT-loop
-Inv-loop w src n index₀ weight₀ first count at₀ k₀ index weight at k =
+Inv-loop w src n index₀ weight₀ first last count at₀ k₀ index weight at k =
     (k ≤ count) × (at ≡ n + length (tapsTo w src k)) × (index ≡ paste index₀ n (sources (tapsOf w src)) (length (tapsTo w src k))) × (weight ≡ paste weight₀ n (weights (tapsOf w src)) (length (tapsTo w src k))) × (length index ≡ length index₀) × (length weight ≡ length weight₀)
 
 abbrev μ-loop : tie.MeasureT-loop
-μ-loop w src n index₀ weight₀ first count at₀ k₀ index weight at k = count - k
+μ-loop w src n index₀ weight₀ first last count at₀ k₀ index weight at k = count - k
 
 count-requires : tie.Need-count-requires Inv-loop μ-loop
 count-requires c κs = search needs

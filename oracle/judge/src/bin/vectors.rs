@@ -474,6 +474,36 @@ fn plane_parts() -> Vec<String> {
     pictures.map(|(case, (width, height))| plane_part(case, width, height)).collect()
 }
 
+/// 64 samples of a picture with a change put onto it. Both repeat a few values, so that a line is short.
+fn change_part(case: usize, width: usize, height: usize, channels: usize) -> String {
+    const STEPS: [f32; 6] = [0.5, 8.0, 300.0, 0.001, 4e37, 64.0];
+    let mut random = Random::new(case as u64);
+    let step = STEPS[case % STEPS.len()];
+    let values: Vec<f32> = (0..37).map(|_| (random.below(17) as f32 - 8.0) * step / 8.0).collect();
+    let pattern = random.bytes(251);
+    let length = width * height * channels;
+    let place = [0, length - 64, random.below(length as u64 - 64) as usize][case % 3];
+    let change: Vec<f32> = values.iter().copied().cycle().take(256 * 256).collect();
+    let mut bytes: Vec<u8> = pattern.iter().copied().cycle().take(length).collect();
+    stages::change(&mut bytes, channels, width, height, &change);
+    let (count, values) = (values.len(), floats(&values));
+    let pattern = hex::of_bytes(&pattern);
+    let operand =
+        format!("{width:04x}{height:04x}{channels:02x}{place:08x}{count:02x}{values}{pattern}");
+    format!("{operand} {}", hex::of_bytes(&bytes[place..place + 64]))
+}
+
+/// Pictures no smaller than the plane, of at most 262,144 samples, for which the replay program has room.
+fn change_parts() -> Vec<String> {
+    let three = [256, 257, 263, 288, 307, 331, 341];
+    let pairs = three.iter().flat_map(|&width| three.map(|height| (width, height, 3)));
+    let pictures = pairs.filter(|(width, height, channels)| width * height * channels <= 262_144);
+    let four = [(256, 256, 4); 8];
+    let pictures = pictures.chain(four).enumerate();
+    let line = |(case, (width, height, channels))| change_part(case, width, height, channels);
+    pictures.map(line).collect()
+}
+
 fn resample_lists() -> Vec<List> {
     let list = |name, about, lines| List { program: "replay_resample", name, about, lines };
     let windows = windows();
@@ -494,6 +524,12 @@ fn resample_lists() -> Vec<List> {
             "width and height, two bytes each, channels, a place in the plane, two bytes, and the samples;\n\
              64 values of the plane from this place on, f32.",
             plane_parts(),
+        ),
+        list(
+            "change",
+            "width and height, two bytes each, channels, a place in the samples, four bytes, how many values, the\n\
+             values of the change, f32, and the samples, both repeated as often as needed; 64 samples from this place on.",
+            change_parts(),
         ),
     ]
 }

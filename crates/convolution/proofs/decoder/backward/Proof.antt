@@ -11,11 +11,11 @@ use Rattle.convolution.proofs.decoder.backward.Statement.{statement}
 use Rattle.convolution.proofs.decoder.backward.Tie as tie
 
 abbrev Inv-loop : tie.InvT-loop
-Inv-loop decisions bits₀ state₀ t₀ bits state t =
-    (t ≤ length decisions) × (length bits ≡ length bits₀) × (state < 64) × (state ≡ origR (drop t decisions) 0) × (drop t bits ≡ pathR (drop t decisions) 0)
+Inv-loop decisions end bits₀ state₀ t₀ bits state t =
+    (t ≤ length decisions) × (length bits ≡ length bits₀) × (state < 64) × (state ≡ origR (drop t decisions) end) × (drop t bits ≡ pathR (drop t decisions) end)
 
 abbrev μ-loop : tie.MeasureT-loop
-μ-loop decisions bits₀ state₀ t₀ bits state t = t
+μ-loop decisions end bits₀ state₀ t₀ bits state t = t
 
 loop-holds : tie.Need-loop-holds Inv-loop μ-loop
 unfolding origR pathR
@@ -60,13 +60,13 @@ loop-again c =
     let u = l .t - 1 in
     let e : suc u ≡ l .t = omega arith in
     let U : u < length (a .decisions .now) = omega arith in
-    let j : l .state ≡ origR (drop (suc u) (a .decisions .now)) 0 = rw e (l .inv .3) in
-    let w : drop (suc u) (l .bits) ≡ pathR (drop (suc u) (a .decisions .now)) 0 = rw e (l .inv .4) in (
+    let j : l .state ≡ origR (drop (suc u) (a .decisions .now)) (a .end) = rw e (l .inv .3) in
+    let w : drop (suc u) (l .bits) ≡ pathR (drop (suc u) (a .decisions .now)) (a .end) = rw e (l .inv .4) in (
       omega arith,
       length-set (l .bits) u (l .state / 32) ∙ l .inv .1,
       omega arith,
-      ap (λ (x : ℕ). (2 * l .state + x) % 64) (c .bit-of .ensures) ∙ sym (orig-at (a .decisions .now) u (l .state) U j),
-      drop-set (l .bits) u (l .state / 32) (omega arith) ∙ ap (λ (x : List ℕ). l .state / 32 ∷ x) w ∙ sym (path-at (a .decisions .now) u (l .state) U j),
+      ap (λ (x : ℕ). (2 * l .state + x) % 64) (c .bit-of .ensures) ∙ sym (orig-at (a .decisions .now) (a .end) u (l .state) U j),
+      drop-set (l .bits) u (l .state / 32) (omega arith) ∙ ap (λ (x : List ℕ). l .state / 32 ∷ x) w ∙ sym (path-at (a .decisions .now) (a .end) u (l .state) U j),
     )
 
 same-length : tie.Need-same-length Inv-loop μ-loop

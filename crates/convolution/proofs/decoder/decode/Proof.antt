@@ -30,14 +30,14 @@ slice-aggregate-pack-2 c = search needs
 pack-requires : tie.Need-pack-requires
 pack-requires c κs =
     let soft = c .before .before .before .before .before .before .before .before .before .before .args .soft .now in
-    let e = decoded-by floats soft _ _ (c .before .before .before .before .before .before .before .forward .ensures .1) (c .before .before .before .backward .ensures) in
+    let e = decoded-by floats soft _ _ _ (c .before .before .before .before .before .before .before .forward .ensures .0) (c .before .before .before .before .before .before .before .forward .ensures .2) (c .before .before .before .backward .ensures) in
     (search needs, rw e (decoded-bits floats soft))
 
 returns : tie.Need-returns
 returns c =
     let soft = c .before .before .before .before .before .before .before .before .before .before .before .before .args .soft .now in
-    let e = decoded-by floats soft _ _ (c .before .before .before .before .before .before .before .before .before .forward .ensures .1) (c .before .before .before .before .before .backward .ensures) in
-    (c .before .pack .ensures ∙ ap (recordOf 46) e, c .before .before .before .before .before .before .before .before .before .forward .ensures .0)
+    let e = decoded-by floats soft _ _ _ (c .before .before .before .before .before .before .before .before .before .forward .ensures .0) (c .before .before .before .before .before .before .before .before .before .forward .ensures .2) (c .before .before .before .before .before .backward .ensures) in
+    (c .before .pack .ensures ∙ ap (recordOf 46) e, c .before .before .before .before .before .before .before .before .before .forward .ensures .1)
 
 pub decode-spec : {M : Type 1} → statement M
 decode-spec =

@@ -78,8 +78,8 @@ loop-again c =
       rows-step floats (starting floats) (a .soft .now) nan (l .t) (l .metric) (l .decisions) (c .before .advance .result .odd) L (omega arith) (l .inv .3) (c .before .advance .ensures .1) (l .inv .4),
     )
 
-array-read-result : tie.Need-array-read-result Inv-loop μ-loop
-array-read-result c = search needs
+end-of-requires : tie.Need-end-of-requires Inv-loop μ-loop
+end-of-requires c κs = search needs
 
 same-length : tie.Need-same-length Inv-loop μ-loop
 same-length c = search needs
@@ -87,10 +87,10 @@ same-length c = search needs
 returns : tie.Need-returns Inv-loop μ-loop
 unfolding strength
 returns c =
-    let l = c .before .loop in
-    let a = c .before .before .before .before .before .args in
+    let l = c .before .before .before .loop in
+    let a = c .before .before .before .before .before .before .before .args in
     let whole : take (2 * l .t) (a .soft .now) ≡ a .soft .now = take-all (2 * l .t) (a .soft .now) (omega arith) in
-    (ap (λ (m : List Float). getD m 0 nan) (l .inv .3 ∙ ap (after floats (starting floats)) whole), sym (take-all (l .t) (l .decisions) (omega arith)) ∙ l .inv .4 ∙ ap (rows floats (starting floats)) whole)
+    (c .end-of .ensures .0, c .end-of .ensures .1 ∙ ap (λ (m : List Float). getD m 0 nan) (l .inv .3 ∙ ap (after floats (starting floats)) whole), sym (take-all (l .t) (l .decisions) (omega arith)) ∙ l .inv .4 ∙ ap (rows floats (starting floats)) whole)
 
 pub forward-spec : {M : Type 1} → statement M
 forward-spec =
@@ -114,6 +114,6 @@ forward-spec =
     add-t
     loop-less
     loop-again
-    array-read-result
+    end-of-requires
     same-length
     returns)

@@ -49,11 +49,11 @@ returns c =
     let ended = sym (c .before .before .draw .ensures) ∙ c .enum-told .given .1 in
     (search needs, l .inv .1, sym (made-end (streamOf (now (start .key))) (start .count - (l .i + 1)) (l .i) (l .at) (l .list) (start .count - l .i) (omega arith) ended) ∙ l .inv .2)
 
-add-exchange : tie.Need-add-exchange Inv-loop μ-loop
-add-exchange c = record { fits = omega (arith, below (c .before .before), c .before .before .before .before .before .before .loop .inv .1) }
+place-of-requires : tie.Need-place-of-requires Inv-loop μ-loop
+place-of-requires c κs = omega (arith, below (c .before .before), c .before .before .before .before .before .before .loop .inv .1)
 
 exchange-requires : tie.Need-exchange-requires Inv-loop μ-loop
-exchange-requires c κs = omega (arith, below (c .before .before))
+exchange-requires c κs = omega (arith, below (c .before .before .before), c .place-of .ensures)
 
 add-i : tie.Need-add-i Inv-loop μ-loop
 add-i c = search needs
@@ -63,10 +63,10 @@ loop-less c = search needs
 
 loop-again : tie.Need-loop-again Inv-loop μ-loop
 loop-again c =
-    let l = c .before .before .before .before .before .before .before .before .before .loop in
-    let start = c .before .before .before .before .before .before .before .before .before .before .before .args in
-    let found = sym (c .before .before .before .before .before .before .before .draw .ensures) ∙ c .before .before .before .before .before .r .given .1 in
-    (search needs, search needs, rw (c .before .before .exchange .ensures) (sym (made-more (streamOf (now (start .key))) (start .count - (l .i + 1)) (l .i) (l .at) (l .list) (start .count - l .i) _ _ (omega arith) found) ∙ l .inv .2))
+    let l = c .before .before .before .before .before .before .before .before .before .before .loop in
+    let start = c .before .before .before .before .before .before .before .before .before .before .before .before .args in
+    let found = sym (c .before .before .before .before .before .before .before .before .draw .ensures) ∙ c .before .before .before .before .before .before .r .given .1 in
+    (search needs, search needs, rw (c .before .before .exchange .ensures, c .before .before .before .place-of .ensures) (sym (made-more (streamOf (now (start .key))) (start .count - (l .i + 1)) (l .i) (l .at) (l .list) (start .count - l .i) _ _ (omega arith) found) ∙ l .inv .2))
 
 same-length-2 : tie.Need-same-length-2 Inv-loop μ-loop
 same-length-2 c = c .before .loop .inv .1
@@ -90,7 +90,7 @@ permute-spec =
     enum-told
     same-length
     returns
-    add-exchange
+    place-of-requires
     exchange-requires
     add-i
     loop-less

@@ -3,7 +3,7 @@ use mathlib.Core.Path.{_≡_, refl, sym, _∙_, ap}
 use mathlib.Core.List.{[]}
 use Prim.Native.Nat.{_+_, _-_, _^_, _≤_, _<_}
 use native.Mathlib.Omega.{arith}
-use lib.IntN.{ℤ, pos, _+ℤ_}
+use lib.IntN.{pos, _+ℤ_}
 use lib.ListN.{length}
 use mir.Syntax.{w64}
 use mir.Val.{toZ, ofZ}
@@ -20,12 +20,12 @@ use Rattle.resample.proofs.down.add_window.Statement.{statement}
 use Rattle.resample.proofs.down.add_window.Tie as tie
 
 abbrev Inv-loop : tie.InvT-loop
-Inv-loop w height channels samples offsets index weight line₀ rows₀ held₀ sum₀ first count k₀ line rows held sum k =
+Inv-loop w height channels samples offsets index weight line₀ rows₀ held₀ sum₀ first last count k₀ line rows held sum k =
     (k ≤ count) × (length line ≡ length line₀) × Kept (narrowRow (length line₀) channels samples) 256 256 64 held rows × (sum ≡ sumRows 256 (narrowRow (length line₀) channels samples) (tapsTo w height k))
     × (length rows ≡ length rows₀) × (length held ≡ length held₀) × (length sum ≡ length sum₀)
 
 abbrev μ-loop : tie.MeasureT-loop
-μ-loop w height channels samples offsets index weight line₀ rows₀ held₀ sum₀ first count k₀ line rows held sum k = count - k
+μ-loop w height channels samples offsets index weight line₀ rows₀ held₀ sum₀ first last count k₀ line rows held sum k = count - k
 
 count-requires : tie.Need-count-requires Inv-loop μ-loop
 count-requires c κs = search needs

@@ -19,12 +19,12 @@ use Rattle.resample.proofs.up.add_window.Statement.{statement}
 use Rattle.resample.proofs.up.add_window.Tie as tie
 
 abbrev Inv-loop : tie.InvT-loop
-Inv-loop w change offsets index weight rows₀ held₀ sum₀ first count k₀ rows held sum k =
+Inv-loop w change offsets index weight rows₀ held₀ sum₀ first last count k₀ rows held sum k =
     (k ≤ count) × Kept (wideRow (length sum₀) change) (length sum₀) 8192 2 held rows × (sum ≡ sumRows (length sum₀) (wideRow (length sum₀) change) (tapsTo w 256 k))
     × (length rows ≡ length rows₀) × (length held ≡ length held₀) × (length sum ≡ length sum₀)
 
 abbrev μ-loop : tie.MeasureT-loop
-μ-loop w change offsets index weight rows₀ held₀ sum₀ first count k₀ rows held sum k = count - k
+μ-loop w change offsets index weight rows₀ held₀ sum₀ first last count k₀ rows held sum k = count - k
 
 count-requires : tie.Need-count-requires Inv-loop μ-loop
 count-requires c κs = search needs

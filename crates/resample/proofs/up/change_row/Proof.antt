@@ -4,7 +4,6 @@ use Prim.Native.Nat.{ℕ}
 use lib.ListN.{length, replicate, length-replicate}
 use lib.Ieee.{binary32, ofBits}
 use Rattle.float.specs.Base.{zero+}
-use Rattle.window.specs.Window.{taps}
 use Rattle.window.specs.Taps.{window-small, taps-of}
 use Rattle.resample.specs.Samples.{wideRow}
 use Rattle.resample.specs.Sums.{sumRows, sum-none, change-of}

@@ -1,9 +1,7 @@
 -- What the four calls promise, one in the other. Assumes nothing.
 use borrow.Author.Needs.{needs}
 use mathlib.Core.Path.{ap, _∙_}
-use mathlib.Core.List.{List}
 use denote.Ref.{now}
-use lib.Ieee.{Float}
 use Rattle.block.specs.Transform.{forwardOf, inverseOf}
 use Rattle.block.specs.Plane.{storedOf}
 use Rattle.stages.proofs.block8.block_there_and_back.Statement.{statement}

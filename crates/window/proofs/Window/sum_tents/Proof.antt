@@ -3,7 +3,7 @@ use mathlib.Core.Path.{_≡_, refl, _∙_, ap}
 use mathlib.Core.Logic.{⊎-elim}
 use Prim.Native.Nat.{_-_, _^_, _≤_}
 use native.Mathlib.Omega.{arith}
-use lib.IntN.{ℤ, pos, _+ℤ_}
+use lib.IntN.{pos, _+ℤ_}
 use lib.Ieee.{ofBits}
 use mir.Syntax.{w64}
 use mir.ValLaws.{toZ-ofZ}
@@ -15,10 +15,10 @@ use Rattle.window.proofs.Window.sum_tents.Statement.{statement}
 use Rattle.window.proofs.Window.sum_tents.Tie as tie
 
 abbrev Inv-loop : tie.InvT-loop
-Inv-loop self first count sum₀ k₀ sum k = (k ≤ count) × (sum ≡ sumOf self k)
+Inv-loop self first last count sum₀ k₀ sum k = (k ≤ count) × (sum ≡ sumOf self k)
 
 abbrev μ-loop : tie.MeasureT-loop
-μ-loop self first count sum₀ k₀ sum k = count - k
+μ-loop self first last count sum₀ k₀ sum k = count - k
 
 count-requires : tie.Need-count-requires Inv-loop μ-loop
 count-requires c κs = search needs

@@ -1,0 +1,14 @@
+-- The sum and its quotient, as they stand. Assumes nothing.
+use mathlib.Core.Path.{refl}
+use lib.Ieee.{neg, ofBits}
+use Rattle.seq.specs.Sum.{sumTo}
+use Rattle.float.specs.Vote.{meanOfFour}
+use Rattle.block.proofs.mean.Statement.{statement}
+use Rattle.block.proofs.mean.Tie as tie
+
+returns : tie.Need-returns
+unfolding meanOfFour sumTo neg ofBits
+returns c = refl
+
+pub mean-spec : {M : Type 1} → statement M
+mean-spec = tie.close (tie.spec returns)

@@ -1,0 +1,15 @@
+-- Crate `chacha20`: each public function's promise determines its outcome. Assumes nothing.
+use Rattle.determined.specs.One.{Determined, one}
+use Rattle.chacha20.proofs as chacha20
+
+pub quarter-one : Determined chacha20.quarter.ended chacha20.quarter.Reads.Post
+quarter-one κs a x y p q i = (one p q i, x .1)
+
+pub little-endian-one : Determined chacha20.little_endian.ended chacha20.little_endian.Reads.Post
+little-endian-one κs a x y p q i = (one p q i, x .1)
+
+pub block-one : Determined chacha20.block.ended chacha20.block.Reads.Post
+block-one κs a x y p q i = (one p q i, x .1)
+
+pub apply-one : Determined chacha20.apply.ended chacha20.apply.Reads.Post
+apply-one κs a x y p q i = (one (p .0) (q .0) i, (tt, (tt, (tt, (one (p .1) (q .1) i, tt)))))

@@ -1,0 +1,6 @@
+-- Crate `crc32`: each public function's promise determines its outcome. Assumes nothing.
+use Rattle.determined.specs.One.{Determined, one}
+use Rattle.crc32.proofs as crc32
+
+pub crc32-one : Determined crc32.crc32.ended crc32.crc32.Reads.Post
+crc32-one κs a x y p q i = (one p q i, x .1)

@@ -1,0 +1,9 @@
+-- Crate `refusal`: each public function's promise determines its outcome. Assumes nothing.
+use Rattle.determined.specs.One.{Determined, one}
+use Rattle.refusal.proofs as refusal
+
+pub number-one : Determined refusal.number.ended refusal.number.Reads.Post
+number-one κs a x y p q i = (one p q i, x .1)
+
+pub given-one : Determined refusal.given.ended refusal.given.Reads.Post
+given-one κs a x y p q i = (one p q i, x .1)

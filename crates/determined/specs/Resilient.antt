@@ -1,0 +1,12 @@
+-- Crate `resilient`: each public function's promise determines its outcome. Assumes nothing.
+use Rattle.determined.specs.One.{Determined, one}
+use Rattle.resilient.proofs as resilient
+
+pub write-one : Determined resilient.write.ended resilient.write.Reads.Post
+write-one κs a x y p q i = (one (p .0) (q .0) i, (one (p .1 .0) (q .1 .0) i, (tt, (tt, (tt, (one (p .1 .1) (q .1 .1) i, tt))))))
+
+pub read-one : Determined resilient.read.ended resilient.read.Reads.Post
+read-one κs a x y p q i = (one (p .0) (q .0) i, (tt, (tt, (tt, (one (p .1) (q .1) i, tt)))))
+
+pub read-votes-one : Determined resilient.read_votes.ended resilient.read_votes.Reads.Post
+read-votes-one κs a x y p q i = (one p q i, x .1)
