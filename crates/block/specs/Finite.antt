@@ -278,14 +278,8 @@ pub plane-vote-within : (x u : List Float) → Each x (2 ^ 20) → Dither u → 
 plane-vote-within x u X U = block-vote-within u x 1 20 (lit≤ tt) (lit≤ tt) (lit≤ tt) U X
 
 module _ (u x : List Float) (bit : ℕ) (B : bit ≤ 1) (U : Dither u) (X : Each x (2 ^ 20)) where
-  pub plane-coefficients-within : Each (markedBlock u bit (forwardOf x)) (2 ^ 25)
-  plane-coefficients-within = each-more (markedBlock u bit (forwardOf x)) (16 * ((2 ^ 18 + 1) * 2 ^ 2)) (2 ^ 25) (lit≤ tt) (embed-coefficients u x bit (2 ^ 18) 1 2 B (lit≤ tt) (lit≤ tt) (lit≤ tt) (lit≤ tt) U X)
-
   embedded : Each (inverseOf (markedBlock u bit (forwardOf x))) (2 ^ 28 + 2 ^ 10)
   embedded = embed-within u x bit (2 ^ 18) 1 2 B (lit≤ tt) (lit≤ tt) (lit≤ tt) (lit≤ tt) U X
-
-  pub plane-embed-within : Each (inverseOf (markedBlock u bit (forwardOf x))) (2 ^ 29)
-  plane-embed-within = each-more (inverseOf (markedBlock u bit (forwardOf x))) (2 ^ 28 + 2 ^ 10) (2 ^ 29) (lit≤ tt) embedded
 
   -- the change, marked minus plane
   pub marked-plane-within : (r c : ℕ) → r < 8 → c < 8 → Within (sub binary32 (cell (inverseOf (markedBlock u bit (forwardOf x))) r c) (cell x r c)) (2 ^ 29) 1

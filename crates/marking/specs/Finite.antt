@@ -18,7 +18,7 @@ use Rattle.block.specs.Mark.{markedBlock}
 use Rattle.block.specs.Plane.{loadOf}
 use Rattle.block.specs.Finite.{Dither, load-within, plane-vote-within, marked-plane-within}
 use Rattle.marking.specs.Marking.{ditherFour, blockChange, blockVote, markedPlane, changeOf, votesOf}
-use Rattle.marking.specs.Blocks.{blockAt, block-below, cell-load, length-plane, place-of-plane, changedBlock, voteAt}
+use Rattle.marking.specs.Blocks.{blockAt, block-below, cell-load, place-of-plane, changedBlock, voteAt}
 
 pub dither-within : (b : ℕ) → Dither (ditherFour b)
 unfolding ditherFour
@@ -40,10 +40,6 @@ votes-good d D b B =
     ∙ within-unit (voteAt d b) (plane-vote-within (loadOf d b) (ditherFour b) (load-within d (2 ^ 20) b B D) (dither-within b))
 
 -- ---- the change
-
-pub length-change : (bits : List ℕ) (d : List Float) → length (changeOf bits d) ≡ 65536
-unfolding changeOf
-length-change bits d = length-plane (changedBlock bits d)
 
 -- block b with its bit put into it
 abbrev markedAt : List ℕ → List Float → ℕ → List Float

@@ -18,6 +18,7 @@ use Rattle.float.specs.Shifted.{Room, room-power}
 use Rattle.window.specs.Window.{Tap, taps, longest}
 use Rattle.window.specs.Reach.{reach, taps-few, taps-from, taps-room-down}
 use Rattle.window.specs.Weights.{weights-within}
+use Rattle.resample.specs.Tables.{noTap}
 use Rattle.resample.specs.Resampled.{total, across, resampled}
 use Rattle.resample.specs.Samples.{rowOf, value, lumaAt, planeRow, planeOf, changeRow}
 
@@ -71,9 +72,6 @@ module _ (f : ℕ → Float) (u : Tap) (n a : ℕ) (H : Room binary32 n a 1) whe
   total-within z ts Z L W F = total-from z ts 0 (omega arith) (within-more z 0 1 (0 * a) 1 (zero-lt-suc 0) Z (omega arith)) W F
 
 -- ---- an axis, and both
-
-abbrev noTap : Tap
-noTap = record { from = 0; weight = nan }
 
 -- with no more taps than n
 axis-within : (z : Float) (src dst x : ℕ) (f : ℕ → Float) (n a : ℕ) → Within z 0 1 → 0 < src → 2 * reach src dst ≤ n → Room binary32 n a 1 → ((k : ℕ) → k < src → Within (f k) a 1) → Within (total z (taps src dst x) f) (n * a) 1

@@ -9,7 +9,7 @@ use Rattle.float.specs.Base.{zero+}
 use Rattle.window.specs.Window.{Tap, taps}
 use Rattle.resample.specs.Resampled.{total, across, resampled}
 use Rattle.resample.specs.Samples.{lumaAt, rowOf, narrowRow, planeRow, wideRow, changeRow}
-use Rattle.resample.specs.Tables.{addedAt, total-more}
+use Rattle.resample.specs.Tables.{noTap, addedAt, total-more, total-same}
 
 -- the first n values of the sum
 unfoldable pub sumRows : ℕ → (ℕ → List Float) → List Tap → List Float
@@ -31,14 +31,9 @@ sum-more n row ts t sum r e f =
     rw (e, f)
     (ap (λ (z : Float). add binary32 z (mul binary32 (t .weight) (getD (row (t .from)) x nan))) (getD-tab (λ x. total zero+ ts (λ k. getD (row k) x nan)) n x nan X) ∙ total-more zero+ ts t (λ k. getD (row k) x nan)))
 
-total-same : (z : Float) (ts : List Tap) (f g : ℕ → Float) → ((k : ℕ) → f k ≡ g k) → total z ts f ≡ total z ts g
-unfolding total
-total-same z [] f g h = refl
-total-same z (t ∷ ts) f g h = ap (λ (v : Float). total (add binary32 z (mul binary32 (t .weight) v)) ts f) (h (t .from)) ∙ total-same (add binary32 z (mul binary32 (t .weight) (g (t .from)))) ts f g h
-
 pub sum-all : (w h n m : ℕ) (f : ℕ → ℕ → Float) (row : ℕ → List Float) (y : ℕ) → ((k : ℕ) → row k ≡ tab (across w n (f k)) n) → sumRows n row (taps h m y) ≡ tab (resampled w h n m f y) n
 unfolding sumRows resampled
-sum-all w h n m f row y e = tab-same _ _ n (λ x X. total-same zero+ (taps h m y) _ _ (λ k. ap (λ (r : List Float). getD r x nan) (e k) ∙ getD-tab (across w n (f k)) n x nan X))
+sum-all w h n m f row y e = tab-same _ _ n (λ x X. total-same zero+ (taps h m y) _ _ (λ i I. let k = getD (taps h m y) i noTap .from in ap (λ (r : List Float). getD r x nan) (e k) ∙ getD-tab (across w n (f k)) n x nan X))
 
 -- ---- a row of the plane, and of a change
 

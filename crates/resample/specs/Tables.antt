@@ -89,11 +89,11 @@ total-take z t ts m u f h e = rw (e, add-one, take-suc ts m u h) (total-more z (
 -- ---- what stands where
 
 -- what is read behind the last tap
-abbrev noTap : Tap
+abbrev pub noTap : Tap
 noTap = record { from = 0; weight = nan }
 
 -- a sum reads only inside the source
-total-same : (z : Float) (ts : List Tap) (f g : ℕ → Float) → ((i : ℕ) → i < length ts → f (getD ts i noTap .from) ≡ g (getD ts i noTap .from)) → total z ts f ≡ total z ts g
+pub total-same : (z : Float) (ts : List Tap) (f g : ℕ → Float) → ((i : ℕ) → i < length ts → f (getD ts i noTap .from) ≡ g (getD ts i noTap .from)) → total z ts f ≡ total z ts g
 unfolding total
 total-same z [] f g h = refl
 total-same z (t ∷ ts) f g h =

@@ -166,10 +166,6 @@ pub center-fits : (src dst i : ℕ) → T (fits binary64 (centerOf src dst i))
 unfolding centerOf
 center-fits src dst i = sub-fits binary64 (mul binary64 (add binary64 (ofInt binary64 (pos i)) half) (scaleOf src dst)) half
 
-one-fits : T (fits binary64 (two-to 0))
-unfolding fits
-one-fits = tt
-
 -- ---- its first and last number
 
 mag-le : (z : ℤ) → mag z ≤ natAbs z

@@ -31,6 +31,7 @@ use Rattle.window.specs.declared.Window.{Window}
 use Rattle.window.specs.declared.Weight.{Weight}
 use Rattle.window.specs.declared.Weight.the-variants.{Of, Nothing}
 use Rattle.window.specs.Window.{tentOf, weightOf, numbers, centerOf, supportOf, unsummed, summed, empty, longest, windowOf, Tap, clampOf, tapOf, tapsTo, tapsOf, taps}
+use Rattle.window.specs.Signed.{clamp-below}
 use Rattle.window.specs.Range.{one-is, Between, support-between, center-within, center-fits, window-cases, natAbs-add, first-within, numbers-small, span}
 
 -- ---- the least whole number that is at least src / dst
@@ -352,11 +353,6 @@ taps-room-up dst h k =
 
 -- ---- a tap reads inside the source
 
-clamp-inside : (src : ℕ) (j : ℤ) → 0 < src → clampOf src j < src
-unfolding clampOf
-clamp-inside src (pos k) h = omega arith
-clamp-inside src (negsuc k) h = h
-
 -- each of two lists, so each of both
 pub each-append : (P : Tap → Type 0) (xs ys : List Tap) (z : Tap) → ((n : ℕ) → n < length xs → P (getD xs n z)) → ((n : ℕ) → n < length ys → P (getD ys n z)) → (n : ℕ) → n < length (xs ++ ys) → P (getD (xs ++ ys) n z)
 each-append P [] ys z h k n l = k n l
@@ -373,7 +369,7 @@ unfolding tapsTo
 tapsTo-from w src z h zero m l = absurd (let k : m < 0 = l in omega arith)
 tapsTo-from w src z h (suc n) m l =
     each-append (λ (t : Tap). t .from < src) (tapsTo w src n) (tapOf (weightOf w (w .first +ℤ pos n)) (clampOf src (w .first +ℤ pos n))) z (tapsTo-from w src z h n)
-    (tap-inside src (weightOf w (w .first +ℤ pos n)) (clampOf src (w .first +ℤ pos n)) z (clamp-inside src (w .first +ℤ pos n) h)) m l
+    (tap-inside src (weightOf w (w .first +ℤ pos n)) (clampOf src (w .first +ℤ pos n)) z (clamp-below (w .first +ℤ pos n) src h)) m l
 
 pub taps-from : (src dst i : ℕ) (z : Tap) → 0 < src → (n : ℕ) → n < length (taps src dst i) → getD (taps src dst i) n z .from < src
 unfolding taps
