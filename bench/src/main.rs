@@ -1,12 +1,15 @@
-//! Times each stage of the port beside the Rust that it replaces. The two sides take turns on the same input,
-//! and the run stops where their outputs differ.
+//! Times each stage of the port, and writing and reading as a whole, beside the Rust that they replace. The two sides
+//! take turns on the same input, and the run stops where their outputs differ.
 
 use std::hint::black_box;
 use std::time::Instant;
 
+use judge::picture::{Kind, Picture, samples};
 use judge::random::Random;
-use judge::soft::damaged;
-use judge::{cipher, crc32, stages};
+use judge::soft::{damaged, damaged_blocks};
+use judge::unchanged::image::{DynamicImage, RgbImage, RgbaImage};
+use judge::unchanged::{embed_resilient, extract_resilient};
+use judge::{cipher, crc32, resilient, stages};
 
 unsafe extern "C" {
     fn vk_round_all_to_u8(from: *const f32, from_len: usize, to: *mut u8, to_len: usize);
@@ -39,6 +42,44 @@ unsafe extern "C" {
         samples: *mut u8,
         len: usize,
     ) -> bool;
+    fn vaikelomu_write(
+        samples: *mut u8,
+        len: usize,
+        width: usize,
+        height: usize,
+        channels: usize,
+        text: *const u8,
+        text_len: usize,
+        locked: u8,
+        key: &[u8; 32],
+        salt: &[u8; 4],
+        work: *mut f32,
+        work_len: usize,
+        given: &mut u64,
+    ) -> u8;
+    fn vaikelomu_read(
+        samples: *const u8,
+        len: usize,
+        width: usize,
+        height: usize,
+        channels: usize,
+        keyed: u8,
+        key: &[u8; 32],
+        work: *mut f32,
+        work_len: usize,
+        text: &mut [u8; 32],
+        length: &mut usize,
+        given: &mut u64,
+    ) -> u8;
+    fn vaikelomu_read_votes(
+        votes: *const f32,
+        len: usize,
+        keyed: u8,
+        key: &[u8; 32],
+        text: &mut [u8; 32],
+        length: &mut usize,
+        given: &mut u64,
+    ) -> u8;
 }
 
 /// Runs the two in turn and prints the medians in milliseconds and their ratio.
@@ -239,10 +280,124 @@ fn changes(runs: usize, side: usize) {
     assert!(ours == rust, "change to samples, {side} x {side}");
 }
 
-fn main() {
-    let runs = std::env::args().nth(1).map_or(15, |runs| runs.parse().expect("a number of runs"));
-    print!("{:<40} {:>10} {:>10} {:>8}", "stage", "ours ms", "Rust ms", "ratio");
-    println!(" {:>10} {:>10}", "ours MB/s", "Rust MB/s");
+const TEXT: &str = "NOAA 19 2026-11-15 05:46";
+
+/// The Rust's container of a square picture's samples.
+fn container(side: usize, channels: usize, samples: Vec<u8>) -> DynamicImage {
+    let side = side as u32;
+    if channels == 3 {
+        DynamicImage::ImageRgb8(RgbImage::from_raw(side, side, samples).expect("its samples"))
+    } else {
+        DynamicImage::ImageRgba8(RgbaImage::from_raw(side, side, samples).expect("its samples"))
+    }
+}
+
+fn samples_of(image: DynamicImage) -> Vec<u8> {
+    if image.color().has_alpha() {
+        image.into_rgba8().into_raw()
+    } else {
+        image.into_rgb8().into_raw()
+    }
+}
+
+/// A text written into a square picture, again in each run, and read from the result. The Rust is handed its container and
+/// hands it back; the work area is lent as large as each call needs.
+fn marks(runs: usize, side: usize, channels: usize) {
+    let picture = Picture { width: side, height: side, channels };
+    let mut ours = samples(Kind::Grain, picture, 9);
+    let mut rust = Some(container(side, channels, ours.clone()));
+    let mut work = vec![0.0f32; 131_072 + 2 * side * side];
+    let length = ours.len();
+    row_of_bytes(
+        &format!("write, {side} x {side} x {channels}"),
+        length,
+        runs,
+        || {
+            let (to, text, room, floats) =
+                (ours.as_mut_ptr(), TEXT.as_ptr(), work.as_mut_ptr(), work.len());
+            let (key, salt, mut given) = ([0; 32], [0; 4], 0);
+            let answer = unsafe {
+                vaikelomu_write(
+                    to,
+                    length,
+                    side,
+                    side,
+                    channels,
+                    text,
+                    TEXT.len(),
+                    0,
+                    &key,
+                    &salt,
+                    room,
+                    floats,
+                    &mut given,
+                )
+            };
+            assert_eq!(answer, 0);
+        },
+        || rust = Some(embed_resilient(rust.take().expect("one"), TEXT).expect("it is taken")),
+    );
+    let image = rust.expect("one");
+    let (mut mine, mut theirs) = (([0; 32], 0), String::new());
+    row_of_bytes(
+        &format!("read, {side} x {side} x {channels}"),
+        length,
+        runs,
+        || {
+            let (from, room, floats) = (ours.as_ptr(), work.as_mut_ptr(), 65_536 + side * side);
+            let (text, length) = (&mut mine.0, &mut mine.1);
+            let (count, key, mut given) = (ours.len(), [0; 32], 0);
+            unsafe {
+                vaikelomu_read(
+                    from, count, side, side, channels, 0, &key, room, floats, text, length,
+                    &mut given,
+                )
+            };
+        },
+        || theirs = extract_resilient(&image).expect("it is there"),
+    );
+    assert!(ours == samples_of(image), "write, {side} x {side} x {channels}");
+    assert_eq!(&mine.0[..mine.1], theirs.as_bytes());
+    assert_eq!(theirs, TEXT);
+}
+
+/// The damaged block votes of records; the Rust is put together from its parts, since it has no function for it.
+fn votes(runs: usize) {
+    let mut random = Random::new(10);
+    let record = resilient::record(TEXT.as_bytes(), None).expect("it fits");
+    let sets: Vec<[f32; 1_024]> = (0..200).map(|_| damaged_blocks(&mut random, &record)).collect();
+    let (mut ours, mut rust) = (vec![String::new(); 200], vec![String::new(); 200]);
+    row(
+        "read votes, 200 sets",
+        runs,
+        || {
+            for (votes, said) in sets.iter().zip(&mut ours) {
+                let (mut text, mut length, mut given) = ([0; 32], 0, 0);
+                let (from, count) = (votes.as_ptr(), votes.len());
+                unsafe {
+                    vaikelomu_read_votes(
+                        from,
+                        count,
+                        0,
+                        &[0; 32],
+                        &mut text,
+                        &mut length,
+                        &mut given,
+                    )
+                };
+                *said = String::from_utf8_lossy(&text[..length]).into_owned();
+            }
+        },
+        || {
+            for (votes, said) in sets.iter().zip(&mut rust) {
+                *said = resilient::read_votes(votes, None).unwrap_or_default();
+            }
+        },
+    );
+    assert_eq!(ours, rust);
+}
+
+fn stage_rows(runs: usize) {
     round_to_u8(runs);
     checksums(runs, 1 << 24, 1);
     checksums(runs, 46, 10_000);
@@ -257,4 +412,28 @@ fn main() {
     changes(runs, 512);
     changes(runs, 2_048);
     changes(runs.div_ceil(3), 8_192);
+}
+
+fn mark_rows(runs: usize) {
+    for channels in [3, 4] {
+        marks(runs, 512, channels);
+        marks(runs, 2_048, channels);
+        marks(runs.div_ceil(3), 4_096, channels);
+        marks(runs.div_ceil(5), 8_192, channels);
+    }
+    votes(runs);
+}
+
+fn main() {
+    let words: Vec<String> = std::env::args().skip(1).collect();
+    let runs = words.first().map_or(15, |runs| runs.parse().expect("a number of runs"));
+    let part = words.get(1).map_or("all", String::as_str);
+    print!("{:<40} {:>10} {:>10} {:>8}", "stage", "ours ms", "Rust ms", "ratio");
+    println!(" {:>10} {:>10}", "ours MB/s", "Rust MB/s");
+    if part != "marks" {
+        stage_rows(runs);
+    }
+    if part != "stages" {
+        mark_rows(runs);
+    }
 }

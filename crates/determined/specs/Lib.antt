@@ -14,5 +14,7 @@ pub mod Window
 pub mod Resample
 pub mod Picture
 pub mod Resilient
+pub mod Face
+pub mod Vaikelomu
 pub mod Line
 pub mod Example

@@ -1,5 +1,4 @@
 pub mod Bulk
 pub mod Cipher
 pub mod Blocks
-pub mod Records
 pub mod Pictures

@@ -1,30 +1,11 @@
 // Crate `record`. An answer is given as 0 or as the refusal's number, and the number that goes with it
 // at `given`.
-use record::Answer;
 use record::Key;
 use record::Lock;
 ghost use mathlib.Core.Path.{_≡_};
 ghost use Rattle.record.specs.Record.{short, builtOf, parsedOf};
 ghost use Rattle.record.specs.Answers.{builtAs, readAs};
-ghost use Rattle.stages.specs.Records.{codeOf, givenFor, lockOf, keyOf};
-
-fn code(answer: Answer) -> u8
-    ensures { λ r. ⌜ r ≡ codeOf answer ⌝ }
-{
-    match answer {
-        Answer::Done => 0,
-        Answer::Refused(r) => refusal::number(r),
-    }
-}
-
-fn given_for(answer: Answer) -> u64
-    ensures { λ r. ⌜ r ≡ givenFor answer ⌝ }
-{
-    match answer {
-        Answer::Done => 0,
-        Answer::Refused(r) => refusal::given(r),
-    }
-}
+ghost use Rattle.face.specs.Face.{codeOf, givenFor, lockOf, keyOf};
 
 #[no_mangle]
 pub extern "C" fn vk_record(
@@ -48,8 +29,8 @@ pub extern "C" fn vk_record(
     let made = built.bytes;
     let answer = built.answer;
     *bytes = made;
-    *given = given_for(answer);
-    code(answer)
+    *given = face::given_for(answer);
+    face::code(answer)
 }
 
 #[no_mangle]
@@ -77,6 +58,6 @@ pub extern "C" fn vk_parse(
     let answer = reading.answer;
     *text = read;
     *length = reading.length;
-    *given = given_for(answer);
-    code(answer)
+    *given = face::given_for(answer);
+    face::code(answer)
 }

@@ -6,20 +6,30 @@ mod chacha20;
 mod change;
 mod convolution;
 mod crc32;
+mod damage;
 mod faults;
 mod float;
 mod layout;
 mod lent;
 mod luma;
+mod order;
 mod ours;
 mod plane;
+mod read;
 mod record;
+mod shapes;
 mod sweep;
 mod tally;
+mod told;
 mod utf8;
+mod votes;
 mod window;
+mod write;
 
 use std::process::ExitCode;
+use std::sync::Mutex;
+use std::sync::mpsc;
+use std::thread;
 
 use judge::random::Random;
 use tally::Tally;
@@ -27,7 +37,7 @@ use tally::Tally;
 type Stage = fn(&mut Random, u64) -> Tally;
 
 /// The stages in the order of the crates.
-const STAGES: [(&str, Stage); 12] = [
+const STAGES: [(&str, Stage); 16] = [
     ("float", float::compare),
     ("crc32", crc32::compare),
     ("chacha20", chacha20::compare),
@@ -40,22 +50,39 @@ const STAGES: [(&str, Stage); 12] = [
     ("luma", luma::compare),
     ("plane", plane::compare),
     ("change", change::compare),
+    ("order", order::compare),
+    ("write", write::compare),
+    ("read", read::compare),
+    ("votes", votes::compare),
 ];
 
-/// The stages whose comparison comes with their crate.
-const LATER: [&str; 2] = ["resilient", "votes"];
+/// How many stages are run at the same time.
+const WORKERS: usize = 2;
 
 fn compare(seed: u64, scale: u64) -> Tally {
     let mut total = Tally::default();
-    for (name, stage) in STAGES {
-        // A stage's cases depend on the seed alone, not on the stages before it.
-        let tally = stage(&mut Random::new(seed), scale);
-        tally.print(name);
-        total.add(&tally);
-    }
-    for name in LATER {
-        Tally::default().print(name);
-    }
+    // The last stages take longest and are started first; lines are printed in the stages' order.
+    let waiting = Mutex::new((0..STAGES.len()).collect::<Vec<_>>());
+    let (done, tallies) = mpsc::channel();
+    thread::scope(|scope| {
+        for _ in 0..WORKERS {
+            let (done, waiting) = (done.clone(), &waiting);
+            scope.spawn(move || {
+                while let Some(number) = waiting.lock().ok().and_then(|mut stages| stages.pop()) {
+                    // A stage's cases depend on the seed alone, not on the stages before it.
+                    let tally = STAGES[number].1(&mut Random::new(seed), scale);
+                    done.send((number, tally)).expect("the other end outlives the workers");
+                }
+            });
+        }
+        drop(done);
+        let mut finished: Vec<(usize, Tally)> = tallies.iter().collect();
+        finished.sort_by_key(|(number, _)| *number);
+        for (number, tally) in finished {
+            tally.print(STAGES[number].0);
+            total.add(&tally);
+        }
+    });
     for symbol in ours::undeclared() {
         println!("{symbol}: exported, but not compared");
         total.different += 1;

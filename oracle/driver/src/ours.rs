@@ -1,11 +1,11 @@
-//! Our functions, as the crate `stages` exports them, each where the archive has it.
+//! Our functions, as the crates `stages` and `vaikelomu` export them, each where an archive has it.
 //!
 //! A Rattle slice passes as a pointer and then a length.
 
 /// A function of ours.
 pub struct Ours<F> {
     pub name: &'static str,
-    /// Where the archive has it.
+    /// Where an archive has it.
     pub function: Option<F>,
 }
 
@@ -89,9 +89,25 @@ ours! {
     vk_plane(*const u8, usize, usize, usize, usize, *mut f32, usize) -> bool;
     // A change of the plane, width, height, channels, and the samples; whether they are those of a picture no smaller.
     vk_change(*const f32, usize, usize, usize, usize, *mut u8, usize) -> bool;
+
+    // As include/vaikelomu.h has them.
+    vaikelomu_write(
+        *mut u8, usize, usize, usize, usize, *const u8, usize, u8, &[u8; 32], &[u8; 4], *mut f32, usize, &mut u64
+    ) -> u8;
+    vaikelomu_read(
+        *const u8, usize, usize, usize, usize, u8, &[u8; 32], *mut f32, usize, &mut [u8; 32], &mut usize, &mut u64
+    ) -> u8;
+    vaikelomu_read_votes(
+        *const f32, usize, u8, &[u8; 32], &mut [u8; 32], &mut usize, &mut u64
+    ) -> u8;
 }
 
-/// The functions that the archive has and that are not compared.
+/// Whether an archive has a function.
+pub fn has(name: &str) -> bool {
+    env!("VAIKELOMU_SYMBOLS").split_whitespace().any(|symbol| symbol == name)
+}
+
+/// The functions that an archive has and that are not compared.
 pub fn undeclared() -> impl Iterator<Item = &'static str> {
     env!("VAIKELOMU_SYMBOLS").split_whitespace().filter(|symbol| !DECLARED.contains(symbol))
 }

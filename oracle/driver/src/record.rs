@@ -3,21 +3,17 @@
 use judge::hex;
 use judge::random::Random;
 use judge::records::{KEYED, PLAIN, ROOM, sealed, with_outer};
-use judge::refusal::Refused;
 use judge::resilient::{self, Key, Lock};
 
 use crate::ours;
 use crate::tally::Tally;
+use crate::told::{Told, numbers};
 
 /// Random texts built, and random records read, at scale 1.
 const CASES: u64 = 100_000;
 
-fn refusal<T>(answer: &Result<T, Refused>) -> (u8, u64) {
-    answer.as_ref().err().map_or((0, 0), |refused| (refused.number, refused.given))
-}
-
 /// Characters by chance, at most so many bytes, of which one byte in places is another.
-fn text(random: &mut Random, most: u64) -> Vec<u8> {
+pub fn text(random: &mut Random, most: u64) -> Vec<u8> {
     let length = random.below(most + 1) as usize;
     let mut text = String::new();
     while text.len() < length {
@@ -52,7 +48,7 @@ fn compare_built(tally: &mut Tally, random: &mut Random, scale: u64) {
         let (at, count) = (text.as_ptr(), text.len());
         let number =
             unsafe { ours(at, count, keyed, &lock.key, &lock.salt, &mut record, &mut given) };
-        let equal = (number, given) == refusal(&theirs) && record == theirs.unwrap_or([0; 46]);
+        let equal = (number, given) == numbers(&theirs) && record == theirs.unwrap_or([0; 46]);
         tally.count(equal, || {
             let key = hex::of_bytes(&lock.key);
             format!("vk_record {} key {keyed} {key}: ours {number} {given}", hex::of_bytes(text))
@@ -78,7 +74,7 @@ fn whole(random: &mut Random, key: Key) -> [u8; 46] {
 }
 
 /// The same, and in places one bit wrong, with the outer CRC as it was or set right.
-fn any(random: &mut Random, key: Key) -> [u8; 46] {
+pub fn any(random: &mut Random, key: Key) -> [u8; 46] {
     let mut record = whole(random, key);
     if random.below(4) == 0 {
         record[random.below(46) as usize] ^= 1 << random.below(8);
@@ -100,16 +96,12 @@ fn compare_parsed(tally: &mut Tally, random: &mut Random, scale: u64) {
         let key = if random.below(8) == 0 { random.array() } else { right };
         let keyed = (record[0] == KEYED) != (random.below(8) == 0);
         let theirs = resilient::parse(record, keyed.then_some(key));
-        let (mut text, mut length, mut given) = (random.array(), 99, random.next_u64());
-        let number = unsafe { ours(&record, keyed, &key, &mut text, &mut length, &mut given) };
-        let answer = refusal(&theirs);
-        let said = theirs.unwrap_or_default();
-        let mut expected = [0; ROOM];
-        expected[..said.len()].copy_from_slice(said.as_bytes());
-        let equal = (number, given) == answer && length == said.len() && text == expected;
-        tally.count(equal, || {
+        let told = Told::by(random, |text, length, given| unsafe {
+            ours(&record, keyed, &key, text, length, given)
+        });
+        tally.count(told == Told::of(&theirs), || {
             let key = hex::of_bytes(&key);
-            format!("vk_parse {} key {keyed} {key}: ours {number} {given}", hex::of_bytes(&record))
+            format!("vk_parse {} key {keyed} {key}: ours {told:?}", hex::of_bytes(&record))
         });
     }
 }

@@ -14,3 +14,4 @@ pub mod texts;
 
 pub use crc32fast::hash as crc32;
 pub use instrumented::stages;
+pub use invisible_watermark as unchanged;

@@ -25,6 +25,10 @@ pub enum Kind {
     Noise,
     /// Every sample 0 or 255, by chance.
     Extremes,
+    /// Every sample 0.
+    Black,
+    /// Every sample 255.
+    White,
 }
 
 pub const KINDS: [(&str, Kind); 6] = [
@@ -35,6 +39,9 @@ pub const KINDS: [(&str, Kind); 6] = [
     ("noise", Kind::Noise),
     ("extremes", Kind::Extremes),
 ];
+
+/// Two kinds more, which the stored lists do not have.
+pub const SATURATED: [(&str, Kind); 2] = [("black", Kind::Black), ("white", Kind::White)];
 
 /// The samples of a picture, the same for the same seed. A fourth channel is by chance.
 pub fn samples(kind: Kind, picture: Picture, seed: u64) -> Vec<u8> {
@@ -63,5 +70,7 @@ fn colour(kind: Kind, picture: Picture, x: usize, y: usize, random: &mut Random)
         Kind::Checkers => 255 * ((x / 8 + y / 8) % 2) as u8,
         Kind::Noise => random.next_u64() as u8,
         Kind::Extremes => 255 * random.below(2) as u8,
+        Kind::Black => 0,
+        Kind::White => 255,
     }
 }

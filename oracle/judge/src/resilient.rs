@@ -151,6 +151,18 @@ pub fn write(
     }
 }
 
+/// Marks a picture with any record, as the Rust does with that of a text: it has no function for it.
+pub fn mark_record(record: &[u8; 46], picture: Picture, samples: &mut [u8]) {
+    let Picture { width, height, channels } = picture;
+    let plane = stages::plane(samples, channels, width, height);
+    let mut change = plane.clone();
+    stages::embed_bits(&mut change, &stages::block_bits(&stages::encode(record)));
+    for (changed, original) in change.iter_mut().zip(&plane) {
+        *changed -= original;
+    }
+    stages::change(samples, channels, width, height, &change);
+}
+
 /// The text of a picture. `work` is the number of f32 lent.
 ///
 /// The unchanged Rust answers; the instrumented copy, which also knows the salt, must say the same.

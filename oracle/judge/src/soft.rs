@@ -36,13 +36,12 @@ pub fn sure(bit: u8) -> f32 {
     1.0 - 2.0 * f32::from(bit)
 }
 
-/// The votes of a record's coded bits after damage: some zeroed, some reversed, some moved.
-pub fn damaged(random: &mut Random, record: &[u8; 46]) -> [f32; 748] {
-    let coded = stages::encode(record);
+/// The votes of bits after damage: some zeroed, some reversed, some moved.
+fn hurt<const COUNT: usize>(random: &mut Random, bits: &[u8; COUNT]) -> [f32; COUNT] {
     let damage = random.below(120);
     std::array::from_fn(|place| {
-        let sure = sure(coded[place]);
-        if random.below(748) >= damage {
+        let sure = sure(bits[place]);
+        if random.below(COUNT as u64) >= damage {
             return sure;
         }
         match random.below(3) {
@@ -51,4 +50,14 @@ pub fn damaged(random: &mut Random, record: &[u8; 46]) -> [f32; 748] {
             _ => sure * (random.below(2_049) as f32 / 1_024.0 - 1.0),
         }
     })
+}
+
+/// The damaged votes of a record's coded bits.
+pub fn damaged(random: &mut Random, record: &[u8; 46]) -> [f32; 748] {
+    hurt(random, &stages::encode(record))
+}
+
+/// The damaged votes of the blocks that carry a record.
+pub fn damaged_blocks(random: &mut Random, record: &[u8; 46]) -> [f32; 1_024] {
+    hurt(random, &stages::block_bits(&stages::encode(record)))
 }

@@ -2,7 +2,7 @@
 use borrow.Author.Needs.{needs}
 use mathlib.Core.Path.{ap, _∙_}
 use Rattle.record.specs.declared.Built.{Built}
-use Rattle.stages.specs.Records.{codeOf, givenFor}
+use Rattle.face.specs.Face.{codeOf, givenFor}
 use Rattle.stages.proofs.records.vk_record.Statement.{statement}
 use Rattle.stages.proofs.records.vk_record.Tie as tie
 

@@ -1,4 +1,4 @@
--- An answer of crate `record` as two numbers, and its structs from what C hands over. Definitions only.
+-- An answer as two numbers, and the structs of crate `record` from what C hands over. Definitions only.
 use mathlib.Core.Bool.{Bool}
 use mathlib.Core.List.{List}
 use Prim.Native.Nat.{ℕ}

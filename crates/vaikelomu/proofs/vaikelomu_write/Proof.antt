@@ -1,0 +1,53 @@
+-- The answer as two numbers; samples and work area are as `write` left them, by the picture and the lock that C hands over. Assumes nothing.
+use borrow.Author.Needs.{needs}
+use mathlib.Core.Path.{_≡_, refl, ap, _∙_}
+use denote.Ref.{now}
+use Rattle.resilient.specs.Resilient.{Written, writtenOf}
+use Rattle.face.specs.Face.{codeOf, givenFor}
+use Rattle.vaikelomu.specs.C.{writtenFor}
+use Rattle.vaikelomu.proofs.vaikelomu_write.Statement.{statement}
+use Rattle.vaikelomu.proofs.vaikelomu_write.Tie as tie
+
+picture-of-requires : tie.Need-picture-of-requires
+picture-of-requires c κs = search needs
+
+lock-of-requires : tie.Need-lock-of-requires
+lock-of-requires c κs = search needs
+
+write-requires : tie.Need-write-requires
+write-requires c κs = search needs
+
+given-for-requires : tie.Need-given-for-requires
+given-for-requires c κs = search needs
+
+code-requires : tie.Need-code-requires
+code-requires c κs = search needs
+
+same-length : tie.Need-same-length
+same-length c = search needs
+
+same-length-2 : tie.Need-same-length-2
+same-length-2 c = search needs
+
+returns : tie.Need-returns
+returns c =
+    let after = c .before .before .before .before .before .before in
+    let handed = after .before .before .before in
+    let start = handed .before .before .before .before .before .args in
+    let same : writtenOf (now (start .text)) (handed .lock-of .result) (handed .before .picture-of .result) (now (start .samples)) (now (start .work)) ≡ writtenFor (now (start .samples)) (start .width) (start .height) (start .channels) (now (start .text)) (start .locked) (now (start .key)) (now (start .salt)) (now (start .work)) = rw (handed .lock-of .ensures, handed .before .picture-of .ensures) refl in
+    let made = after .write .ensures in
+    let answer = made .0 ∙ ap (λ (x : Written). x .answer) same in
+    (c .code .ensures ∙ ap codeOf answer, (made .1 .0 ∙ ap (λ (x : Written). x .samples) same, (made .1 .1 ∙ ap (λ (x : Written). x .work) same, c .before .given-for .ensures ∙ ap givenFor answer)))
+
+pub vaikelomu-write-spec : {M : Type 1} → statement M
+vaikelomu-write-spec =
+    tie.close
+    (tie.spec
+    picture-of-requires
+    lock-of-requires
+    write-requires
+    given-for-requires
+    code-requires
+    same-length
+    same-length-2
+    returns)

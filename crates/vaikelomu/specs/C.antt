@@ -1,0 +1,28 @@
+-- What C's calls leave, by what the mark's functions leave: `include/vaikelomu.h` says the same in words. Definitions only.
+use mathlib.Core.Bool.{Bool, not}
+use mathlib.Core.List.{List}
+use Prim.Native.Nat.{ℕ}
+use lib.Dec.{eqb}
+use lib.Ieee.{Float}
+use Rattle.record.specs.declared.Key.{Key}
+use Rattle.record.specs.declared.Lock.{Lock}
+use Rattle.record.specs.declared.Reading.{Reading}
+use Rattle.face.specs.Face.{lockOf, keyOf}
+use Rattle.picture.specs.declared.Picture.{Picture}
+use Rattle.resilient.specs.Resilient.{Written, writtenOf, Read, readingOf, votesReading}
+
+-- C's flag: every number but 0 says yes
+abbrev pub yes : ℕ → Bool
+yes flag = not (eqb flag 0)
+
+abbrev pub pictureOf : ℕ → ℕ → ℕ → Picture
+pictureOf width height channels = record { width = width; height = height; channels = channels }
+
+abbrev pub writtenFor : List ℕ → ℕ → ℕ → ℕ → List ℕ → ℕ → List ℕ → List ℕ → List Float → Written
+writtenFor samples width height channels text locked key salt work = writtenOf text (lockOf (yes locked) key salt) (pictureOf width height channels) samples work
+
+abbrev pub readFor : List ℕ → ℕ → ℕ → ℕ → ℕ → List ℕ → List Float → Read
+readFor samples width height channels keyed key work = readingOf (keyOf (yes keyed) key) (pictureOf width height channels) samples work
+
+abbrev pub votesFor : List Float → ℕ → List ℕ → Reading
+votesFor votes keyed key = votesReading votes (keyOf (yes keyed) key)
