@@ -1,4 +1,4 @@
--- Places and coded bits: place j, which stands in block `blockOf j`, carries coded bit j mod p. Definitions for any number p of coded bits and any number of places, and the first edition's 748 over 1,024. Assumes nothing.
+-- Places and coded bits: place j, which stands in block `blockOf j`, carries coded bit j mod p. Definitions for any number p of coded bits over the 1,024 places, and the first edition's 748. Assumes nothing.
 use mathlib.Core.Path.{_≡_, refl, sym, ap, ap₂, _∙_}
 use mathlib.Core.Bool.{Bool, true, false, cond}
 use mathlib.Core.List.{List}
@@ -11,8 +11,9 @@ use lib.IntN.{pos}
 use lib.ListN.{length, getD, set, replicate, length-set, length-replicate, getD-replicate}
 use lib.Seq.{getD-set-same, getD-set-other}
 use lib.Ieee.{Float, nan, fin, binary32, add}
-use Rattle.seq.specs.Tab.{tab, getD-tab}
+use Rattle.seq.specs.Tab.{tab, tab-same, getD-tab}
 use Rattle.layout.specs.Layout.{blockOf, placeOf}
+use Rattle.layout.specs.Permutation.{layout-undo}
 
 -- ---- from coded bits to blocks
 
@@ -135,15 +136,35 @@ module _ (cs : List ℕ) (k : ℕ) (K : k < 748) where
   sure-at : (j : ℕ) → j < 1024 → j % 748 ≡ k → getD (surePlaces cs) j nan ≡ sure (getD cs k 0)
   sure-at j h e = getD-tab (λ j. sure (getD cs (j % 748) 0)) 1024 j nan h ∙ ap (λ (i : ℕ). sure (getD cs i 0)) e
 
-  pub sure-once : 276 ≤ k → getD (gatherF 748 1024 (surePlaces cs)) k nan ≡ sure (getD cs k 0)
+  sure-once : 276 ≤ k → getD (gatherF 748 1024 (surePlaces cs)) k nan ≡ sure (getD cs k 0)
   sure-once h =
       gather-once nan (fin false 0 (pos 0)) (add binary32) (surePlaces cs) k K h
       ∙ ap (add binary32 (fin false 0 (pos 0))) (sure-at k (omega arith) (mod-eq-of-lt K))
       ∙ from-none (getD cs k 0)
 
-  pub sure-twice : k < 276 → getD (gatherF 748 1024 (surePlaces cs)) k nan ≡ sureTwice (getD cs k 0)
+  sure-twice : k < 276 → getD (gatherF 748 1024 (surePlaces cs)) k nan ≡ sureTwice (getD cs k 0)
   sure-twice h =
       gather-twice nan (fin false 0 (pos 0)) (add binary32) (surePlaces cs) k K h
       ∙ ap₂ (λ (x y : Float). add binary32 (add binary32 (fin false 0 (pos 0)) x) y) (sure-at k (omega arith) (mod-eq-of-lt K)) (sure-at (k + 748) (omega arith) (let e : (k + 748) % 748 ≡ k = omega arith in e))
       ∙ ap (λ (x : Float). add binary32 x (sure (getD cs k 0))) (from-none (getD cs k 0))
       ∙ one-more (getD cs k 0)
+
+-- laid over the blocks and read in the order of the places
+abbrev pub sureBlocks : List ℕ → List Float
+sureBlocks cs = tab (λ b. sure (getD (blockBits 748 cs) b 0)) 1024
+
+pub laid-through : (cs : List ℕ) → through blockOf 1024 nan (sureBlocks cs) ≡ surePlaces cs
+unfolding through blockBits
+laid-through cs =
+    tab-same _ _ 1024
+    (λ j h.
+    getD-tab (λ b. sure (getD (blockBits 748 cs) b 0)) 1024 (blockOf j) nan (layout-undo .lo j h)
+    ∙ ap sure (getD-tab (λ b. getD cs (placeOf b % 748) 0) 1024 (blockOf j) 0 (layout-undo .lo j h) ∙ ap (λ (i : ℕ). getD cs (i % 748) 0) (layout-undo .there j h)))
+
+pub laid-once : (cs : List ℕ) (k : ℕ) → k < 748 → 276 ≤ k → getD (gathered 748 (sureBlocks cs)) k nan ≡ sure (getD cs k 0)
+unfolding gathered
+laid-once cs k K h = ap (λ (us : List Float). getD (gatherF 748 1024 us) k nan) (laid-through cs) ∙ sure-once cs k K h
+
+pub laid-twice : (cs : List ℕ) (k : ℕ) → k < 748 → k < 276 → getD (gathered 748 (sureBlocks cs)) k nan ≡ sureTwice (getD cs k 0)
+unfolding gathered
+laid-twice cs k K h = ap (λ (us : List Float). getD (gatherF 748 1024 us) k nan) (laid-through cs) ∙ sure-twice cs k K h

@@ -1,6 +1,7 @@
 // The dither: numbers from 0 up to, not including, 1, four for each block of the picture. Number n is word n of the keystream
 // of the layout's key with nonce 1, without its low eight bits, over 2^24. A ChaCha20 block has the sixteen numbers of four
-// picture blocks, so each is made where it is used and none is kept.
+// picture blocks, so each is made where it is used and none is kept. The picture's 1,024 blocks take 256 of the 2^32 blocks that a
+// keystream has, so that it does not end here.
 ghost use mathlib.Core.Path.{_≡_};
 ghost use Prim.Native.Nat.{_+_, _*_, _/_, _^_};
 ghost use Rattle.seq.specs.Tab.{tab};

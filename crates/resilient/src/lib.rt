@@ -19,8 +19,11 @@ ghost use Rattle.resilient.specs.Resilient.{cleared, markedSamples, writ
 // Values of the plane, which stands first in the work area.
 const PLANE: usize = 65536;
 
-// Puts the blocks' bits into a picture's samples. The plane holds the picture's and then its change.
-fn put_bits(samples: &mut [u8], p: Picture, bits: &[u8; 1024], plane: &mut [f32])
+// A bit and a vote for each of the picture's blocks.
+const BLOCKS: usize = 1024;
+
+// Puts the blocks' bits into a picture's samples. `plane` becomes the picture's plane, and then the change of it.
+fn put_bits(samples: &mut [u8], p: Picture, bits: &[u8; BLOCKS], plane: &mut [f32])
     requires { ⌜ Sized (p .width) (p .height) (p .channels) (now samples) × (512 ≤ p .width) × (512 ≤ p .height) × (length (now plane) ≡ 65536) ⌝ }
     ensures length { λ _. ⌜ length (now (plane .exit)) ≡ 65536 ⌝ }
     ensures marked { λ _. ⌜ now (samples .exit) ≡ markedSamples p (now (bits .entry)) (now (samples .entry)) ⌝ }
@@ -31,7 +34,7 @@ fn put_bits(samples: &mut [u8], p: Picture, bits: &[u8; 1024], plane: &mut [f32]
 }
 
 // The same in a work area, which ends as zeros.
-fn mark(samples: &mut [u8], p: Picture, bits: &[u8; 1024], work: &mut [f32])
+fn mark(samples: &mut [u8], p: Picture, bits: &[u8; BLOCKS], work: &mut [f32])
     requires { ⌜ Sized (p .width) (p .height) (p .channels) (now samples) × (512 ≤ p .width) × (512 ≤ p .height) × (65536 ≤ length (now work)) ⌝ }
     ensures marked { λ _. ⌜ now (samples .exit) ≡ markedSamples p (now (bits .entry)) (now (samples .entry)) ⌝ }
     ensures cleared { λ _. ⌜ now (work .exit) ≡ cleared (now (work .entry)) ⌝ }
@@ -96,9 +99,9 @@ fn decode(votes: &[f32; BLOCKS], key: Key) -> Reading
     record::parse_record(&bytes, key)
 }
 
-// The text that the picture carries, read with a key or with none. Refused: a picture with a zero side, 4 to 7 of the
-// scope paper's table, with the work area as it was lent, and what `parse_record` refuses. But for the first, the work
-// area ends as zeros.
+// The text that the picture carries, read with a key or with none. Refused, with the work area as it was lent: a zero
+// side, and 4 to 7 of the scope paper's table. Refused behind these is what `parse_record` refuses; then, and where the
+// text is read, the work area ends as zeros.
 pub fn read(samples: &[u8], picture: Picture, key: Key, work: &mut [f32]) -> Reading
     ensures reading { λ r. ⌜ r ≡ readingOf key picture (now (samples .entry)) (now (work .entry)) .reading ⌝ }
     ensures work { λ _. ⌜ now (work .exit) ≡ readingOf key picture (now (samples .entry)) (now (work .entry)) .work ⌝ }
@@ -112,9 +115,6 @@ pub fn read(samples: &[u8], picture: Picture, key: Key, work: &mut [f32]) -> Rea
         }
     }
 }
-
-// A vote for each of the picture's blocks.
-const BLOCKS: usize = 1024;
 
 // The place of the first vote that is not a number from -1 to 1, or the number of votes.
 fn first_bad(votes: &[f32]) -> usize

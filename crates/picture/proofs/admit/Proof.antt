@@ -1,4 +1,4 @@
--- Each test of the definition is one of the code.
+-- Each test of the definition is one of the code. Assumes nothing.
 use mathlib.Core.Path.{_≡_, sym, ap, _∙_}
 use mathlib.Core.Bool.{false}
 use Prim.Native.Nat.{_+_, _*_}

@@ -1,4 +1,4 @@
--- By the two answers that there are.
+-- By the two answers that there are. Assumes nothing.
 use mathlib.Core.Path.{refl}
 use borrow.Author.Needs.{needs}
 use Rattle.picture.specs.Admission.{first}

@@ -1,4 +1,4 @@
--- The test of the definition is the code's.
+-- The test of the definition is the code's. Assumes nothing.
 use borrow.Author.Needs.{needs}
 use Rattle.picture.specs.Admission.{readAdmission}
 use Rattle.picture.proofs.may_read.Statement.{statement}

@@ -1,4 +1,4 @@
--- The test of the definition is the code's.
+-- The test of the definition is the code's. Assumes nothing.
 use borrow.Author.Needs.{needs}
 use borrow.Author.Tests.{lt-ltb, le-ltb}
 use Rattle.picture.specs.Admission.{writeAdmission}

@@ -1,4 +1,4 @@
--- Two sides of at most 8,192.
+-- Two sides of at most 8,192. Assumes nothing.
 use mathlib.Core.Path.{refl}
 use native.Mathlib.Omega.{arith}
 use Rattle.picture.specs.Admitted.{pixels-most}
