@@ -16,7 +16,7 @@ ghost use lib.ListN.{length, getD};
 ghost use lib.Ieee.{nan, binary32};
 ghost use Rattle.float.specs.Vote.{meanOfFour};
 ghost use Rattle.block.specs.Grid.{grid, cell, lineOf};
-ghost use Rattle.block.specs.Matrix.{entry, turnedEntry};
+ghost use Rattle.block.specs.Matrix.{matrix, entry, turnedEntry};
 ghost use Rattle.block.specs.Transform.{forwardOf, inverseOf};
 ghost use Rattle.block.specs.Product.{dotOf};
 ghost use Rattle.block.specs.Columns.{column};
@@ -24,21 +24,21 @@ ghost use Rattle.block.specs.Mark.{markedOf, markedBlock};
 ghost use Rattle.block.specs.Soft.{termOf, voteOf};
 ghost use Rattle.block.specs.Plane.{lineAt, loadOf, storedOf};
 
-fn entry_at(k: usize, i: usize) -> f32
-    requires { ⌜ (k < 8) × (i < 8) ⌝ }
+fn entry_at(table: &[[f32; 8]; 8], k: usize, i: usize) -> f32
+    requires { ⌜ (now table ≡ matrix) × (k < 8) × (i < 8) ⌝ }
     ensures { λ x. ⌜ x ≡ entry k i ⌝ }
 {
-    let m = MATRIX;
-    m[k][i]
+    table[k][i]
 }
 
 // The matrix, line by line, for `forward` and `inverse`. Made once and lent: a constant is rebuilt at every use.
 pub fn dct_matrix() -> [f32; 64]
     ensures { λ m. ⌜ m ≡ grid entry ⌝ }
 {
+    let table = MATRIX;
     let mut m = [0.0f32; 64];
     for p in 0..64usize {
-        m[p] = entry_at(p / 8, p % 8);
+        m[p] = entry_at(&table, p / 8, p % 8);
     }
     m
 }
@@ -47,9 +47,10 @@ pub fn dct_matrix() -> [f32; 64]
 pub fn dct_turned() -> [f32; 64]
     ensures { λ m. ⌜ m ≡ grid turnedEntry ⌝ }
 {
+    let table = MATRIX;
     let mut m = [0.0f32; 64];
     for p in 0..64usize {
-        m[p] = entry_at(p % 8, p / 8);
+        m[p] = entry_at(&table, p % 8, p / 8);
     }
     m
 }

@@ -4,21 +4,22 @@ use mathlib.Core.Path.{_≡_, refl, _∙_}
 use Prim.Native.Nat.{_-_, _/_, _%_, _≤_}
 use native.Mathlib.Omega.{arith}
 use lib.ListN.{length, take}
+use lib.Ieee.{ofBits}
 use Rattle.seq.specs.Tab.{tab, prefix-more, prefix-all}
-use Rattle.block.specs.Matrix.{turnedEntry}
+use Rattle.block.specs.Matrix.{matrix, turnedEntry}
 use Rattle.block.specs.Columns.{table-grid}
 use Rattle.block.proofs.dct_turned.Statement.{statement}
 use Rattle.block.proofs.dct_turned.Tie as tie
 
 abbrev Inv-loop : tie.InvT-loop
-Inv-loop m₀ p₀ m p = (p ≤ 64) × (length m ≡ 64) × (take p m ≡ tab (λ q. turnedEntry (q / 8) (q % 8)) p)
+Inv-loop table m₀ p₀ m p = (table ≡ matrix) × (p ≤ 64) × (length m ≡ 64) × (take p m ≡ tab (λ q. turnedEntry (q / 8) (q % 8)) p)
 
 abbrev μ-loop : tie.MeasureT-loop
-μ-loop m₀ p₀ m p = 64 - p
+μ-loop table m₀ p₀ m p = 64 - p
 
 loop-holds : tie.Need-loop-holds Inv-loop μ-loop
-unfolding tab
-loop-holds c = (search needs, refl, refl)
+unfolding tab ofBits
+loop-holds c = (refl, search needs, refl, refl)
 
 entry-at-requires : tie.Need-entry-at-requires Inv-loop μ-loop
 entry-at-requires c κs = search needs
@@ -36,12 +37,12 @@ loop-less : tie.Need-loop-less Inv-loop μ-loop
 loop-less c = search needs
 
 loop-again : tie.Need-loop-again Inv-loop μ-loop
-loop-again c = (search needs, search needs, prefix-more _ _ _ _ (omega arith) (c .entry-at .ensures) (c .before .before .loop .inv .2))
+loop-again c = (search needs, search needs, search needs, prefix-more _ _ _ _ (omega arith) (c .entry-at .ensures) (c .before .before .before .loop .inv .3))
 
 returns : tie.Need-returns Inv-loop μ-loop
 returns c =
     let e : c .before .loop .p ≡ 64 = omega arith in
-    prefix-all _ _ _ (c .before .loop .inv .1) (rw e at (c .before .loop .inv .2)) ∙ table-grid turnedEntry
+    prefix-all _ _ _ (c .before .loop .inv .2) (rw e at (c .before .loop .inv .3)) ∙ table-grid turnedEntry
 
 pub dct-turned-spec : {M : Type 1} → statement M
 dct-turned-spec =
