@@ -9,6 +9,7 @@ use borrow.Author.Tests.{ltb-false, eqb-true, eqb-false, not-false}
 use Rattle.refusal.specs.declared.Refusal.{Refusal}
 use Rattle.record.specs.declared.Answer.{Answer}
 use Rattle.record.specs.declared.Answer.the-variants.{Done, Refused}
+use Rattle.record.specs.Theorems.{refused-not-done}
 use Rattle.picture.specs.declared.Picture.{Picture}
 use Rattle.picture.specs.Admission.{shorter, longer, roomOf, admission, writeAdmission, readAdmission, first}
 
@@ -53,13 +54,13 @@ few c e = go (eqb c 3) (eqb c 4) (eqb→eq c 3) (eqb→eq c 4) e
 
 -- where all is done, a test did not refuse and neither did what follows it
 past : (t : Bool) (r : Refusal) (rest : Answer) → cond t (Refused r) rest ≡ Done → (t ≡ false) × (rest ≡ Done)
-past true r rest e = let z : _≡_ {A = ℕ} 0 1 = cc e in absurd (omega arith)
+past true r rest e = absurd (refused-not-done _ e)
 past false r rest e = (refl, e)
 
 pub first-done : (a b : Answer) → first a b ≡ Done → (a ≡ Done) × (b ≡ Done)
 unfolding first
 first-done Done b e = (refl, e)
-first-done (Refused r) b e = let z : _≡_ {A = ℕ} 0 1 = cc e in absurd (omega arith)
+first-done (Refused r) b e = absurd (refused-not-done _ e)
 
 pub record Admitted (parts : ℕ) (p : Picture) (samples work : ℕ) : Type 0 where
   pub width-most : p .width ≤ 8192

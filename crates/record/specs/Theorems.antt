@@ -7,6 +7,7 @@ use native.Mathlib.Omega.{arith}
 use lib.Dec.{eqb, leb, lit≤}
 use lib.ListN.{length, getD, take, replicate}
 use borrow.Author.Tests.{eq-eqb, ne-eqb, eqb-false, le-leb, leb-true}
+use Rattle.refusal.specs.declared.Refusal.{Refusal}
 use Rattle.refusal.specs.declared.Refusal.the-variants.{TextTooLong, TextNotUtf8, NoWatermark, PasswordRequired, Damaged, WrongPasswordOrDamaged}
 use Rattle.chacha20.specs.declared.Applied.the-variants.{Next}
 use Rattle.chacha20.specs.Apply.{appliedOf}
@@ -14,7 +15,7 @@ use Rattle.chacha20.specs.Laws.{applied-next}
 use Rattle.utf8.specs.Rfc3629.{wellFormed}
 use Rattle.utf8.specs.Counted.{counted}
 use Rattle.utf8.specs.Texts.{wellFormed-counted}
-use Rattle.record.specs.declared.Answer.the-variants.{Done}
+use Rattle.record.specs.declared.Answer.the-variants.{Done, Refused}
 use Rattle.record.specs.declared.Lock.{Lock}
 use Rattle.record.specs.declared.Key.{Key}
 use Rattle.record.specs.Record.{Profile, short, saltAt, lengthAt, outerAt, numberAt, intact, covered, refused, gives, headOf, locked, recordOf, builtOf, textIn, insideOf, parsedOf}
@@ -133,6 +134,9 @@ module _ (p : Profile) (apart : eqb (p .keyed) (p .plain) ≡ false) where
 
 -- ---- building
 
+pub refused-not-done : (r : Refusal) → Refused r ≡ Done → ⊥
+refused-not-done r e = let z : _≡_ {A = ℕ} 0 1 = cc e in absurd (omega arith)
+
 -- a text that is not refused has its record
 pub built-done : (text : List ℕ) (lock : Lock) → builtAs (builtOf short text lock) .answer ≡ Done → builtAs (builtOf short text lock) .bytes ≡ recordOf short text lock
 unfolding builtOf
@@ -142,5 +146,5 @@ built-done text lock e = go (leb (length text) (short .room)) (counted text) e
         → builtAs (cond (not s) (refused (TextTooLong (length text))) (cond (not t) (refused TextNotUtf8) (gives (recordOf short text lock)))) .answer ≡ Done
         → builtAs (cond (not s) (refused (TextTooLong (length text))) (cond (not t) (refused TextNotUtf8) (gives (recordOf short text lock)))) .bytes ≡ recordOf short text lock
     go true true e = refl
-    go true false e = let z : _≡_ {A = ℕ} 0 1 = cc e in absurd (omega arith)
-    go false t e = let z : _≡_ {A = ℕ} 0 1 = cc e in absurd (omega arith)
+    go true false e = absurd (refused-not-done _ e)
+    go false t e = absurd (refused-not-done _ e)

@@ -1,8 +1,7 @@
 -- What writing and reading leave, by their answers: where there is a refusal all is as it was lent. Assumes nothing.
-use mathlib.Core.Path.{_≡_, refl}
+use mathlib.Core.Path.{_≡_, refl, sym}
 use mathlib.Core.List.{List}
 use Prim.Native.Nat.{ℕ}
-use native.Mathlib.Omega.{arith}
 use lib.ListN.{length}
 use lib.Ieee.{Float}
 use Rattle.refusal.specs.declared.Refusal.{Refusal}
@@ -12,6 +11,7 @@ use Rattle.record.specs.declared.Key.{Key}
 use Rattle.record.specs.declared.Lock.{Lock}
 use Rattle.record.specs.Record.{short, refused, parsedOf}
 use Rattle.record.specs.Answers.{readAs}
+use Rattle.record.specs.Theorems.{refused-not-done}
 use Rattle.convolution.specs.Demand3.{decodedFrom}
 use Rattle.picture.specs.declared.Picture.{Picture}
 use Rattle.picture.specs.Admission.{readAdmission}
@@ -21,11 +21,11 @@ module _ {A : Type 0} (new lent : A) where
   if-done : (a : Answer) → a ≡ Done → ifDone a new lent ≡ new
   unfolding ifDone
   if-done Done e = refl
-  if-done (Refused r) e = let z : _≡_ {A = ℕ} 0 1 = cc e in absurd (omega arith)
+  if-done (Refused r) e = absurd (refused-not-done _ e)
 
   if-refused : (a : Answer) (r : Refusal) → a ≡ Refused r → ifDone a new lent ≡ lent
   unfolding ifDone
-  if-refused Done r e = let z : _≡_ {A = ℕ} 0 1 = cc e in absurd (omega arith)
+  if-refused Done r e = absurd (refused-not-done r (sym e))
   if-refused (Refused q) r e = refl
 
 -- ---- writing
@@ -51,7 +51,7 @@ module _ (key : Key) (p : Picture) (samples : List ℕ) (work : List Float) wher
     where
       done : (a : Answer) → a ≡ Done → readingFrom a (pictureVotes p samples) key ≡ readAs (parsedOf short (decodedFrom (pictureVotes p samples)) key)
       done Done e = refl
-      done (Refused r) e = let z : _≡_ {A = ℕ} 0 1 = cc e in absurd (omega arith)
+      done (Refused r) e = absurd (refused-not-done _ e)
 
   -- a picture that is refused gives no text and leaves the work area as it was
   pub read-refused : (r : Refusal) → readAdmission p (length samples) (length work) ≡ Refused r
@@ -60,5 +60,5 @@ module _ (key : Key) (p : Picture) (samples : List ℕ) (work : List Float) wher
   read-refused r e = (not-read _ e, if-refused _ _ _ r e)
     where
       not-read : (a : Answer) → a ≡ Refused r → readingFrom a (pictureVotes p samples) key ≡ readAs (refused r)
-      not-read Done e = let z : _≡_ {A = ℕ} 0 1 = cc e in absurd (omega arith)
+      not-read Done e = absurd (refused-not-done r (sym e))
       not-read (Refused q) e = cc e

@@ -4,8 +4,6 @@ use mathlib.Core.List.{List}
 use Prim.Native.Nat.{ℕ}
 use lib.Dec.{eqb}
 use lib.Ieee.{Float}
-use Rattle.record.specs.declared.Key.{Key}
-use Rattle.record.specs.declared.Lock.{Lock}
 use Rattle.record.specs.declared.Reading.{Reading}
 use Rattle.face.specs.Face.{lockOf, keyOf}
 use Rattle.picture.specs.declared.Picture.{Picture}
