@@ -2,7 +2,10 @@
 // one first, and what the Rust makes of them. Every NaN is written as one pattern. Prints for each list how many
 // were compared and how many differ.
 use lists::Field;
-ghost use Prim.Native.Nat.{_+_, _≤_, _<_};
+use lists::stored::f32_of;
+use lists::stored::same;
+use lists::stored::word;
+ghost use Prim.Native.Nat.{_≤_};
 ghost use mathlib.Core.Path.{_≡_};
 ghost use lib.ListN.{length};
 ghost use Rattle.lists.specs.Fields.{Within};
@@ -16,26 +19,12 @@ enum Stage {
     Vote,
 }
 
-fn wide(byte: u8) -> u32
-    ensures { λ r. ⌜ r < 256 ⌝ }
-{
-    byte as u32
-}
-
-fn word(raw: &[u8], at: usize) -> u32
-    requires { ⌜ at + 4 ≤ length (now raw) ⌝ }
-{
-    let high = wide(raw[at]) * 256 + wide(raw[at + 1]);
-    let low = wide(raw[at + 2]) * 256 + wide(raw[at + 3]);
-    high * 65536 + low
-}
-
 fn block_of(raw: &[u8]) -> [f32; 64]
     requires { ⌜ 256 ≤ length (now raw) ⌝ }
 {
     let mut values = [0.0f32; 64];
     for i in 0..64usize {
-        values[i] = float::f32_from_bits(word(raw, 4 * i));
+        values[i] = f32_of(word(raw, 4 * i));
     }
     values
 }
@@ -44,29 +33,11 @@ fn dither_of(raw: &[u8]) -> [f32; 4]
     requires { ⌜ 272 ≤ length (now raw) ⌝ }
 {
     [
-        float::f32_from_bits(word(raw, 256)),
-        float::f32_from_bits(word(raw, 260)),
-        float::f32_from_bits(word(raw, 264)),
-        float::f32_from_bits(word(raw, 268)),
+        f32_of(word(raw, 256)),
+        f32_of(word(raw, 260)),
+        f32_of(word(raw, 264)),
+        f32_of(word(raw, 268)),
     ]
-}
-
-fn has_bits(x: f32, bits: u32) -> bool {
-    if x != x {
-        return bits == 0x7fc0_0000;
-    }
-    f32::to_bits(x) == bits
-}
-
-fn same(values: &[f32; 64], raw: &[u8]) -> bool
-    requires { ⌜ 256 ≤ length (now raw) ⌝ }
-{
-    for i in 0..64usize {
-        if !has_bits(values[i], word(raw, 4 * i)) {
-            return false;
-        }
-    }
-    true
 }
 
 // What `block` makes of the stored bytes: a block, then its four dither numbers and its bit. A vote stands at the

@@ -1,7 +1,9 @@
 // The stored lists: records with their coded bits, and votes with the record and the metric that they give.
-ghost use Prim.Native.Nat.{_<_};
 ghost use Rattle.lists.specs.Fields.{Within};
 use lists::Field;
+use lists::stored::bits_of_f32;
+use lists::stored::f32_of;
+use lists::stored::word;
 
 fn same_coded(coded: &[u8; 748], packed: &[u8; 94]) -> bool {
     for i in 0..748usize {
@@ -31,38 +33,12 @@ fn same_record(a: &[u8; 46], b: &[u8; 46]) -> bool {
     true
 }
 
-fn wide(b: u8) -> u32
-    ensures { λ r. ⌜ r < 256 ⌝ }
-{
-    b as u32
-}
-
-fn vote(raw: &[u8; 2992], i: usize) -> f32
-    requires { ⌜ i < 748 ⌝ }
-{
-    let high = wide(raw[4 * i]) * 256 + wide(raw[4 * i + 1]);
-    let low = wide(raw[4 * i + 2]) * 256 + wide(raw[4 * i + 3]);
-    float::f32_from_bits(high * 65536 + low)
-}
-
 fn votes(raw: &[u8; 2992]) -> [f32; 748] {
     let mut soft = [0.0f32; 748];
     for i in 0..748usize {
-        soft[i] = vote(raw, i);
+        soft[i] = f32_of(word(raw, 4 * i));
     }
     soft
-}
-
-// A NaN is stored as one pattern; a metric is never one.
-fn has_bits(x: f32, bits: u64) -> bool {
-    if x != x {
-        return false;
-    }
-    widest(f32::to_bits(x)) == bits
-}
-
-fn widest(bits: u32) -> u64 {
-    bits as u64
 }
 
 fn decodes(text: &[u8], soft: Field, bytes: Field, metric: Field) -> bool
@@ -79,7 +55,7 @@ fn decodes(text: &[u8], soft: Field, bytes: Field, metric: Field) -> bool
         && other.good
         && last.good
         && same_record(&found, &expected)
-        && has_bits(d.metric, last.value)
+        && bits_of_f32(d.metric) == last.value
 }
 
 fn replay_encoder(text: &[u8]) {

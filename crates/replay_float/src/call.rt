@@ -1,4 +1,9 @@
 // The calls of crate `float`, over the bits of their operands and their result.
+use lists::stored::bits_of_f32;
+use lists::stored::bits_of_f64;
+use lists::stored::f32_of;
+use lists::stored::f64_of;
+
 pub enum Call {
     RoundF32,
     FloorF32,
@@ -11,36 +16,6 @@ pub enum Call {
     NarrowF64,
     MinF32,
     MaxF64,
-}
-
-fn f32_of(bits: u64) -> f32 {
-    float::f32_from_bits((bits % 0x1_0000_0000) as u32)
-}
-
-fn wide(bits: u32) -> u64 {
-    bits as u64
-}
-
-fn bits_of_f32(x: f32) -> u64 {
-    if x != x {
-        return 0x7fc0_0000;
-    }
-    wide(f32::to_bits(x))
-}
-
-fn f64_of(bits: u64) -> f64 {
-    let size = bits % 0x8000_0000_0000_0000;
-    if 0x7ff0_0000_0000_0000 < size {
-        return 0.0 / 0.0;
-    }
-    f64::from_bits(bits)
-}
-
-fn bits_of_f64(x: f64) -> u64 {
-    if x != x {
-        return 0x7ff8_0000_0000_0000;
-    }
-    f64::to_bits(x)
 }
 
 // Two's complement.

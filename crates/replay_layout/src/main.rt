@@ -1,8 +1,14 @@
-// Replays the Rust's stored answers for crate `layout`: the layout, which our shuffle makes again, the dither, shuffles of
-// many keys and lengths, and the draw on chosen values, since no key at hand brings about a number that is drawn again.
+// Replays stored answers for crate `layout`. The Rust's own: the layout, which our shuffle makes again, the
+// dither, and shuffles of many keys and lengths. No key at hand brings about a number that is drawn again, and the
+// Rust has no function for a single draw, so the answers for the draw on chosen values (accepted.txt) are the
+// oracle's: it computes them in oracle/judge/src/shuffles.rs by the formula that stands within the Rust's shuffle.
 // A case is two strings of bytes, the operand and the result, in which a number has its high byte first.
 use lists::Field;
-ghost use Prim.Native.Nat.{_+_, _*_, _^_, _≤_, _<_};
+use lists::stored::f32_of;
+use lists::stored::number;
+use lists::stored::pair;
+use lists::stored::word;
+ghost use Prim.Native.Nat.{_+_, _*_, _≤_};
 ghost use mathlib.Core.Path.{_≡_};
 ghost use lib.ListN.{length};
 ghost use Rattle.lists.specs.Fields.{Within};
@@ -12,31 +18,6 @@ enum Stage {
     Dither,
     Shuffle,
     Accepted,
-}
-
-fn wide(byte: u8) -> u64
-    ensures { λ r. ⌜ r < 256 ⌝ }
-{
-    byte as u64
-}
-
-fn pair(high: u8, low: u8) -> u64
-    ensures { λ r. ⌜ r < 65536 ⌝ }
-{
-    wide(high) * 256 + wide(low)
-}
-
-fn word(raw: &[u8], at: usize) -> u64
-    requires { ⌜ at + 4 ≤ length (now raw) ⌝ }
-    ensures { λ r. ⌜ r < 2 ^ 32 ⌝ }
-{
-    pair(raw[at], raw[at + 1]) * 65536 + pair(raw[at + 2], raw[at + 3])
-}
-
-fn number(raw: &[u8], at: usize) -> u64
-    requires { ⌜ at + 8 ≤ length (now raw) ⌝ }
-{
-    word(raw, at) * 0x1_0000_0000 + word(raw, at + 4)
 }
 
 fn widest(entry: u16) -> u64 {
@@ -76,7 +57,7 @@ fn lays(raw: &[u8; 50], expected: &[u8; 8202]) -> bool {
 fn dithers(raw: &[u8; 50], expected: &[u8; 8202]) -> bool {
     let ours = layout::dither::dither(word(raw, 0) as u32);
     for k in 0..16usize {
-        if ours[k] != float::f32_from_bits(word(expected, 4 * k) as u32) {
+        if ours[k] != f32_of(word(expected, 4 * k)) {
             return false;
         }
     }

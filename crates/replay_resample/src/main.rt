@@ -1,7 +1,18 @@
-// Replays the Rust's stored answers for the crates `window` and `resample`: windows, the weights of source numbers, parts
-// of the planes of small pictures, and parts of pictures with a change put onto them. A case is two strings of bytes, the operand and the result, in which a number has
-// its high byte first; floats stand by their bits, and whole numbers that have a sign as f64.
+// Replays the Rust's stored answers for the crates `window` and `resample`: windows, the weights of source
+// numbers, the luma of rows, parts of the planes of pictures, and parts of pictures with a change put onto them.
+// A case is two strings of bytes, the operand and the result, in which a number has its high byte first; floats
+// stand by their bits, and whole numbers that have a sign as f64. Of a picture's samples a pattern is stored,
+// which is repeated as often as needed.
 use lists::Field;
+use lists::stored::bits_of_f32;
+use lists::stored::bits_of_f64;
+use lists::stored::f32_of;
+use lists::stored::f64_of;
+use lists::stored::number;
+use lists::stored::pair;
+use lists::stored::same;
+use lists::stored::wide;
+use lists::stored::word;
 use std::num::nearest_i64_to_f64;
 use window::Weight;
 use window::Window;
@@ -13,60 +24,9 @@ ghost use Rattle.lists.specs.Fields.{Within};
 enum Stage {
     Window,
     Weight,
+    Luma,
     Plane,
     Change,
-}
-
-fn wide(byte: u8) -> u64
-    ensures { λ r. ⌜ r < 256 ⌝ }
-{
-    byte as u64
-}
-
-fn pair(high: u8, low: u8) -> u64
-    ensures { λ r. ⌜ r < 65536 ⌝ }
-{
-    wide(high) * 256 + wide(low)
-}
-
-fn word(raw: &[u8], at: usize) -> u64
-    requires { ⌜ at + 4 ≤ length (now raw) ⌝ }
-    ensures { λ r. ⌜ r < 2 ^ 32 ⌝ }
-{
-    pair(raw[at], raw[at + 1]) * 65536 + pair(raw[at + 2], raw[at + 3])
-}
-
-fn number(raw: &[u8], at: usize) -> u64
-    requires { ⌜ at + 8 ≤ length (now raw) ⌝ }
-{
-    word(raw, at) * 0x1_0000_0000 + word(raw, at + 4)
-}
-
-fn f64_of(bits: u64) -> f64 {
-    let size = bits % 0x8000_0000_0000_0000;
-    if 0x7ff0_0000_0000_0000 < size {
-        return 0.0 / 0.0;
-    }
-    f64::from_bits(bits)
-}
-
-// No NaN is stored.
-fn has_bits_f64(x: f64, bits: u64) -> bool {
-    if x != x {
-        return false;
-    }
-    f64::to_bits(x) == bits
-}
-
-fn widest(bits: u32) -> u64 {
-    bits as u64
-}
-
-fn has_bits(x: f32, bits: u64) -> bool {
-    if x != x {
-        return false;
-    }
-    widest(f32::to_bits(x)) == bits
 }
 
 // The window of a source size, an output size and an output number.
@@ -84,11 +44,11 @@ fn is_window(raw: &[u8], expected: &[u8]) -> bool
     requires { ⌜ (6 ≤ length (now raw)) × (40 ≤ length (now expected)) ⌝ }
 {
     let w = window_of(raw);
-    has_bits_f64(nearest_i64_to_f64(w.first), number(expected, 0))
-        && has_bits_f64(nearest_i64_to_f64(w.last), number(expected, 8))
-        && has_bits_f64(w.center, number(expected, 16))
-        && has_bits_f64(w.support, number(expected, 24))
-        && has_bits_f64(w.sum, number(expected, 32))
+    bits_of_f64(nearest_i64_to_f64(w.first)) == number(expected, 0)
+        && bits_of_f64(nearest_i64_to_f64(w.last)) == number(expected, 8)
+        && bits_of_f64(w.center) == number(expected, 16)
+        && bits_of_f64(w.support) == number(expected, 24)
+        && bits_of_f64(w.sum) == number(expected, 32)
 }
 
 // A window and a number; 1 and the weight, or zeros.
@@ -97,7 +57,7 @@ fn is_weight(raw: &[u8], expected: &[u8]) -> bool
 {
     let j = float::floor_f64_to_i64(f64_of(number(raw, 6)));
     match window_of(raw).weight(j) {
-        Weight::Of(q) => expected[0] == 1 && has_bits(q, word(expected, 1)),
+        Weight::Of(q) => expected[0] == 1 && bits_of_f32(q) == word(expected, 1),
         Weight::Nothing => expected[0] == 0 && word(expected, 1) == 0,
     }
 }
@@ -108,31 +68,112 @@ fn room() -> [f32; 65536]
     [0.0; 65536]
 }
 
-// The plane of samples, where they are as many as the picture has.
+fn samples_in(width: usize, height: usize, channels: usize) -> usize
+    requires { ⌜ (width ≤ 8192) × (height ≤ 8192) × (channels ≤ 4) ⌝ }
+    ensures { λ r. ⌜ (r ≡ width * channels * height) × (r ≤ 268435456) ⌝ }
+{
+    width * channels * height
+}
+
+fn luma_room() -> [f32; 64]
+    ensures { λ r. ⌜ 64 ≡ length r ⌝ }
+{
+    [0.0; 64]
+}
+
+// The luma of a row into `out`, which is as expected.
+fn made_luma(row: &[u8], channels: usize, out: &mut [f32], expected: &[u8]) -> bool
+    requires { ⌜ (3 ≤ channels) × (channels ≤ 4) × (length (now row) ≡ length (now out) * channels) × (length (now out) ≤ 64) × (length (now expected) ≡ 256) ⌝ }
+{
+    resample::down::luma(row, channels, out);
+    same(out, expected)
+}
+
+// Channels and the samples of a row; the luma of its pixels.
+fn is_luma(raw: &[u8], count: usize, expected: &[u8], to: usize) -> bool
+    requires { ⌜ (1 ≤ length (now raw)) × (length (now expected) ≡ 256) ⌝ }
+{
+    let channels = wide(raw[0]) as usize;
+    let pixels = to / 4;
+    if channels < 3 {
+        return false;
+    }
+    if 4 < channels {
+        return false;
+    }
+    if 64 < pixels {
+        return false;
+    }
+    let end = 1 + samples_in(pixels, 1, channels);
+    if count != end {
+        return false;
+    }
+    if raw.len() < end {
+        return false;
+    }
+    let mut out = luma_room();
+    to == 4 * pixels && made_luma(&raw[1..end], channels, &mut out[..pixels], expected)
+}
+
+// The samples of a pattern one after the other, and again from its first.
+fn fill_samples(raw: &[u8], samples: &mut [u8])
+    requires { ⌜ 0 < length (now raw) ⌝ }
+    ensures { λ _. ⌜ length (now (samples .exit)) ≡ length (now (samples .entry)) ⌝ }
+{
+    for p in 0..samples.len() {
+        samples[p] = raw[p % raw.len()];
+    }
+}
+
+// Room for the samples of a picture.
+fn sample_room() -> [u8; 1048576]
+    ensures { λ r. ⌜ 1048576 ≡ length r ⌝ }
+{
+    [0; 1048576]
+}
+
+// The plane of a picture of the pattern.
 fn full_plane(
-    samples: &[u8],
+    pattern: &[u8],
+    width: usize,
+    height: usize,
+    channels: usize,
+    samples: &mut [u8],
+    plane: &mut [f32],
+)
+    requires { ⌜ (0 < width) × (width ≤ 8192) × (0 < height) × (height ≤ 8192) × (3 ≤ channels) × (channels ≤ 4) × (length (now samples) ≡ width * channels * height) × (length (now plane) ≡ 65536) × (0 < length (now pattern)) ⌝ }
+{
+    fill_samples(pattern, samples);
+    resample::down::plane(samples, width, height, channels, plane);
+}
+
+fn sized_plane(
+    pattern: &[u8],
     width: usize,
     height: usize,
     channels: usize,
     plane: &mut [f32],
 ) -> bool
-    requires { ⌜ (0 < width) × (width ≤ 8192) × (0 < height) × (height ≤ 8192) × (3 ≤ channels) × (channels ≤ 4) × (length (now plane) ≡ 65536) ⌝ }
+    requires { ⌜ (0 < width) × (width ≤ 8192) × (0 < height) × (height ≤ 8192) × (3 ≤ channels) × (channels ≤ 4) × (length (now plane) ≡ 65536) × (0 < length (now pattern)) ⌝ }
 {
-    if samples.len() != width * channels * height {
+    let n = samples_in(width, height, channels);
+    let mut samples = sample_room();
+    if samples.len() < n {
         return false;
     }
-    resample::down::plane(samples, width, height, channels, plane);
+    full_plane(pattern, width, height, channels, &mut samples[0..n], plane);
     true
 }
 
+// Whether there is such a picture, and room for it; then its plane.
 fn made_plane(
-    samples: &[u8],
+    pattern: &[u8],
     width: usize,
     height: usize,
     channels: usize,
     plane: &mut [f32],
 ) -> bool
-    requires { ⌜ length (now plane) ≡ 65536 ⌝ }
+    requires { ⌜ (length (now plane) ≡ 65536) × (0 < length (now pattern)) ⌝ }
 {
     if 0 < width
         && width <= 8192
@@ -141,31 +182,20 @@ fn made_plane(
         && 3 <= channels
         && channels <= 4
     {
-        return full_plane(samples, width, height, channels, plane);
+        return sized_plane(pattern, width, height, channels, plane);
     }
     false
 }
 
-fn same(values: &[f32], raw: &[u8]) -> bool
-    requires { ⌜ (64 ≤ length (now values)) × (256 ≤ length (now raw)) ⌝ }
-{
-    for i in 0..64usize {
-        if !has_bits(values[i], word(raw, 4 * i)) {
-            return false;
-        }
-    }
-    true
-}
-
-// Width, height, channels, a place in the plane, and the samples; the 64 values of the plane from this place on.
+// Width, height, channels, a place in the plane, and the pattern; the 64 values of the plane from this place on.
 fn is_part(raw: &[u8], count: usize, expected: &[u8]) -> bool
-    requires { ⌜ (7 ≤ length (now raw)) × (256 ≤ length (now expected)) ⌝ }
+    requires { ⌜ (7 ≤ length (now raw)) × (length (now expected) ≡ 256) ⌝ }
 {
     let width = pair(raw[0], raw[1]) as usize;
     let height = pair(raw[2], raw[3]) as usize;
     let channels = wide(raw[4]) as usize;
     let place = pair(raw[5], raw[6]) as usize;
-    if count < 7 || raw.len() < count {
+    if count < 8 || raw.len() < count {
         return false;
     }
     if 65472 < place {
@@ -177,23 +207,13 @@ fn is_part(raw: &[u8], count: usize, expected: &[u8]) -> bool
         && same(&plane[place..end], expected)
 }
 
-// The values of a list one after the other, and again from its first.
+// The same of the values of a change.
 fn fill_change(raw: &[u8], values: usize, change: &mut [f32])
     requires { ⌜ (0 < values) × (4 * values ≤ length (now raw)) × (values ≤ 255) ⌝ }
     ensures { λ _. ⌜ length (now (change .exit)) ≡ length (now (change .entry)) ⌝ }
 {
     for q in 0..change.len() {
-        change[q] = float::f32_from_bits(word(raw, 4 * (q % values)) as u32);
-    }
-}
-
-// The same of samples.
-fn fill_samples(raw: &[u8], samples: &mut [u8])
-    requires { ⌜ 0 < length (now raw) ⌝ }
-    ensures { λ _. ⌜ length (now (samples .exit)) ≡ length (now (samples .entry)) ⌝ }
-{
-    for p in 0..samples.len() {
-        samples[p] = raw[p % raw.len()];
+        change[q] = f32_of(word(raw, 4 * (q % values)));
     }
 }
 
@@ -206,13 +226,6 @@ fn same_samples(samples: &[u8], expected: &[u8]) -> bool
         }
     }
     true
-}
-
-fn samples_in(width: usize, height: usize, channels: usize) -> usize
-    requires { ⌜ (width ≤ 512) × (height ≤ 512) × (channels ≤ 4) ⌝ }
-    ensures { λ r. ⌜ r ≡ width * channels * height ⌝ }
-{
-    width * channels * height
 }
 
 // The change put onto a picture of the pattern, whose samples from `place` to `end` are then as expected.
@@ -250,7 +263,7 @@ fn sized_change(
 {
     let n = samples_in(width, height, channels);
     let end = place + 64;
-    let mut samples = lists::room();
+    let mut samples = sample_room();
     if samples.len() < n {
         return false;
     }
@@ -290,8 +303,8 @@ fn made_change(
     false
 }
 
-// Width, height, channels, a place in the samples, the number of values of the change, the values and the samples; the 64
-// samples from this place on.
+// Width, height, channels, a place in the samples, the number of values of the change, the values and the
+// pattern; the 64 samples from this place on.
 fn is_changed(raw: &[u8], count: usize, expected: &[u8]) -> bool
     requires { ⌜ (10 ≤ length (now raw)) × (64 ≤ length (now expected)) ⌝ }
 {
@@ -338,6 +351,7 @@ fn agrees(text: &[u8], stage: Stage, operand: Field, result: Field) -> bool
     match stage {
         Stage::Window => from == 6 && to == 40 && is_window(&raw, &expected),
         Stage::Weight => from == 14 && to == 5 && is_weight(&raw, &expected),
+        Stage::Luma => is_luma(&raw, from, &expected, to),
         Stage::Plane => to == 256 && is_part(&raw, from, &expected),
         Stage::Change => to == 64 && is_changed(&raw, from, &expected),
     }
@@ -371,6 +385,7 @@ fn list(name: &[u8], stage: Stage) {
 fn main() {
     list(b"window.txt", Stage::Window);
     list(b"weight.txt", Stage::Weight);
+    list(b"luma.txt", Stage::Luma);
     list(b"plane.txt", Stage::Plane);
     list(b"change.txt", Stage::Change);
 }

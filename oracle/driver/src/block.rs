@@ -1,4 +1,5 @@
-//! The stage block: the transform and its inverse, marking, votes, and blocks out of the plane and into it.
+//! The stage block: the transform and its inverse, marking, votes, and blocks out of the plane and into it; and a whole
+//! plane transformed and transformed back.
 
 use judge::random::Random;
 use judge::soft::votes;
@@ -22,11 +23,15 @@ fn place(block: usize, index: usize) -> usize {
 }
 
 /// A plane of 1,024 blocks: in even planes samples of a picture, whole or not; in odd ones the kinds of `votes` in turn.
+/// Every fifth block is constant, of the first value that it would have.
 fn plane(random: &mut Random, case: u64) -> Box<[f32; PLANE_LEN]> {
     let mut plane = vec![0.0; PLANE_LEN];
     for block in 0..1024 {
         let kind = if case % 2 == 0 { block as u64 % 3 } else { case / 2 + block as u64 };
-        let values: [f32; 64] = votes(random, kind);
+        let mut values: [f32; 64] = votes(random, kind);
+        if block % 5 == 4 {
+            values = [values[0]; 64];
+        }
         for (index, value) in values.into_iter().enumerate() {
             plane[place(block, index)] = if case % 2 == 0 { 127.5 * value + 127.5 } else { value };
         }
@@ -42,6 +47,7 @@ struct Block {
     vote: unsafe extern "C" fn(&[f32; 64], &[f32; 4]) -> f32,
     load: unsafe extern "C" fn(&[f32; PLANE_LEN], u16, &mut [f32; 64]),
     store: unsafe extern "C" fn(&mut [f32; PLANE_LEN], u16, &[f32; 64]),
+    there_and_back: unsafe extern "C" fn(&mut [f32; PLANE_LEN]),
 }
 
 impl Block {
@@ -53,6 +59,7 @@ impl Block {
             vote: ours::vk_block_vote.function?,
             load: ours::vk_load_block.function?,
             store: ours::vk_store_block.function?,
+            there_and_back: ours::vk_there_and_back.function?,
         })
     }
 
@@ -104,6 +111,20 @@ fn compare_transforms(tally: &mut Tally, ours: &Block, plane: &[f32; PLANE_LEN])
     }
 }
 
+/// Both planes, 64 samples at a time.
+fn compare_samples(tally: &mut Tally, mine: &[f32], theirs: &[f32], name: &str, case: u64) {
+    for (line, (mine, theirs)) in mine.chunks_exact(64).zip(theirs.chunks_exact(64)).enumerate() {
+        tally.count(same(mine, theirs), || format!("{name} {case}, samples from {}", line * 64));
+    }
+}
+
+fn compare_there_and_back(tally: &mut Tally, ours: &Block, plane: &[f32; PLANE_LEN], case: u64) {
+    let (mut mine, mut theirs) = (Box::new(*plane), plane.to_vec());
+    unsafe { (ours.there_and_back)(&mut mine) };
+    stages::there_and_back(&mut theirs);
+    compare_samples(tally, &mine[..], &theirs, "vk_there_and_back, plane", case);
+}
+
 fn compare_plane(
     tally: &mut Tally,
     ours: &Block,
@@ -113,6 +134,7 @@ fn compare_plane(
 ) {
     let mut mine = plane(random, case);
     compare_transforms(tally, ours, &mine);
+    compare_there_and_back(tally, ours, &mine, case);
     let mine_votes = ours.votes(&mine, dither);
     if case % 2 == 0 {
         let telling = mine_votes.iter().filter(|vote| vote.abs() < 1.0).count();
@@ -128,12 +150,7 @@ fn compare_plane(
     let mut theirs = mine.clone();
     ours.embed(&mut mine, &bits, dither);
     stages::embed_bits(&mut theirs[..], &bits);
-    let lines = mine.chunks_exact(64).zip(theirs.chunks_exact(64));
-    for (line, (mine, theirs)) in lines.enumerate() {
-        tally.count(same(mine, theirs), || {
-            format!("the marked plane {case}, samples from {}", line * 64)
-        });
-    }
+    compare_samples(tally, &mine[..], &theirs[..], "the marked plane", case);
 }
 
 pub fn compare(random: &mut Random, scale: u64) -> Tally {

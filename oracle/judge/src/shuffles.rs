@@ -61,6 +61,7 @@ pub fn cases() -> Vec<String> {
 }
 
 /// Numbers around each range's limit, the largest multiple of it that is at most 2^64, and whether they lie below it.
+/// The Rust has no function for a single draw, so this is computed here.
 pub fn accepted() -> Vec<String> {
     let ranges = [
         1,

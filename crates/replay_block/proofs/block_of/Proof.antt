@@ -20,8 +20,8 @@ mul-word c = search needs
 word-requires : tie.Need-word-requires Inv-loop μ-loop
 word-requires c κs = search needs
 
-f32-from-bits-requires : tie.Need-f32-from-bits-requires Inv-loop μ-loop
-f32-from-bits-requires c κs = search needs
+f32-of-requires : tie.Need-f32-of-requires Inv-loop μ-loop
+f32-of-requires c κs = search needs
 
 mul-values : tie.Need-mul-values Inv-loop μ-loop
 mul-values c = search needs
@@ -50,7 +50,7 @@ block-of-spec =
     loop-holds
     mul-word
     word-requires
-    f32-from-bits-requires
+    f32-of-requires
     mul-values
     array-write-values
     add-i

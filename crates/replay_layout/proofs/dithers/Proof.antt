@@ -34,11 +34,8 @@ mul-word c = search needs
 word-requires-2 : tie.Need-word-requires-2 Inv-loop μ-loop
 word-requires-2 c κs = search needs
 
-cast-f32-from-bits : tie.Need-cast-f32-from-bits Inv-loop μ-loop
-cast-f32-from-bits c = search needs
-
-f32-from-bits-requires : tie.Need-f32-from-bits-requires Inv-loop μ-loop
-f32-from-bits-requires c κs = search needs
+f32-of-requires : tie.Need-f32-of-requires Inv-loop μ-loop
+f32-of-requires c κs = search needs
 
 returns : tie.Need-returns Inv-loop μ-loop
 returns c = search needs
@@ -69,8 +66,7 @@ dithers-spec =
     array-read-if1
     mul-word
     word-requires-2
-    cast-f32-from-bits
-    f32-from-bits-requires
+    f32-of-requires
     returns
     add-k
     loop-less

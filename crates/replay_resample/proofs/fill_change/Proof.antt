@@ -30,11 +30,8 @@ mul-word c = record { fits = omega (arith, below c) }
 word-requires : tie.Need-word-requires Inv-loop μ-loop
 word-requires c κs = omega (arith, below c)
 
-cast-f32-from-bits : tie.Need-cast-f32-from-bits Inv-loop μ-loop
-cast-f32-from-bits c = search needs
-
-f32-from-bits-requires : tie.Need-f32-from-bits-requires Inv-loop μ-loop
-f32-from-bits-requires c κs = search needs
+f32-of-requires : tie.Need-f32-of-requires Inv-loop μ-loop
+f32-of-requires c κs = search needs
 
 mul-change : tie.Need-mul-change Inv-loop μ-loop
 mul-change c = search needs
@@ -67,8 +64,7 @@ fill-change-spec =
     rem-word
     mul-word
     word-requires
-    cast-f32-from-bits
-    f32-from-bits-requires
+    f32-of-requires
     mul-change
     slice-write-change
     add-q

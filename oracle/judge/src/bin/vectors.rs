@@ -273,7 +273,8 @@ fn layout_lists() -> Vec<List> {
         list(
             "accepted",
             "a number drawn and a range, eight bytes each, and 1 where the number lies below the largest\n\
-             multiple of the range that is at most 2^64, else 0.",
+             multiple of the range that is at most 2^64, else 0. The Rust has no function for a single draw:\n\
+             the answers are computed in oracle/judge/src/shuffles.rs.",
             shuffles::accepted(),
         ),
     ]
@@ -440,20 +441,68 @@ fn weights(&(src, dst, i): &(usize, usize, usize)) -> Vec<String> {
     places.into_iter().map(line).collect()
 }
 
-/// 64 values of the plane of a small picture.
-fn plane_part(case: usize, width: usize, height: usize) -> String {
-    let picture = Picture { width, height, channels: 3 + case % 2 };
-    let place = 64 * ((case * 389 + 1_023 * (case % 3)) % 1_024);
-    let (_, kind) = KINDS[case % KINDS.len()];
-    let bytes = samples(kind, picture, case as u64);
-    let plane = stages::plane(&bytes, picture.channels, width, height);
-    let channels = picture.channels;
-    let operand =
-        format!("{width:04x}{height:04x}{channels:02x}{place:04x}{}", hex::of_bytes(&bytes));
+/// Every colour of channels that are 0, 1, 127, 128, 254 or 255, the primaries among them, and others by chance.
+fn colours() -> Vec<[u8; 3]> {
+    const CHANNEL: [u8; 6] = [0, 1, 127, 128, 254, 255];
+    let pairs = CHANNEL.iter().flat_map(|&red| CHANNEL.map(|green| (red, green)));
+    let mut colours: Vec<[u8; 3]> =
+        pairs.flat_map(|(red, green)| CHANNEL.map(|blue| [red, green, blue])).collect();
+    let mut random = Random::new(24);
+    colours.extend((0..296).map(|_| random.array::<3>()));
+    colours
+}
+
+/// The luma of a row of 64 pixels at most. A fourth channel is by chance.
+fn luma_row(colours: &[[u8; 3]], channels: usize) -> String {
+    let mut random = Random::new(colours.len() as u64);
+    let pixel = |colour: &[u8; 3]| [colour, &random.bytes(channels - 3)[..]].concat();
+    let row: Vec<u8> = colours.iter().flat_map(pixel).collect();
+    format!("{channels:02x}{} {}", hex::of_bytes(&row), floats(&stages::luma(&row, channels)))
+}
+
+/// The colours in rows of 64, and rows of each length from 1 to 9.
+fn luma_rows() -> Vec<String> {
+    let colours = colours();
+    let mut rows: Vec<&[[u8; 3]]> = colours.chunks(64).collect();
+    rows.extend((1..10).map(|length| &colours[colours.len() - length..]));
+    (3..5).flat_map(|channels| rows.iter().map(move |row| luma_row(row, channels))).collect()
+}
+
+/// A few samples, repeated as often as the picture needs.
+fn repeated(pattern: &[u8], picture: Picture) -> Vec<u8> {
+    let length = picture.width * picture.height * picture.channels;
+    pattern.iter().copied().cycle().take(length).collect()
+}
+
+/// 64 values of the plane of a picture that repeats the pattern.
+fn plane_part(picture: Picture, place: usize, pattern: &[u8]) -> String {
+    let Picture { width, height, channels } = picture;
+    let plane = stages::plane(&repeated(pattern, picture), channels, width, height);
+    let pattern = hex::of_bytes(pattern);
+    let operand = format!("{width:04x}{height:04x}{channels:02x}{place:04x}{pattern}");
     format!("{operand} {}", floats(&plane[place..place + 64]))
 }
 
-/// Sides of 1 to 9, and sides about the plane's beside short ones.
+/// A part of the plane of a small picture, all of whose samples are stored.
+fn small_part(case: usize, width: usize, height: usize) -> String {
+    let picture = Picture { width, height, channels: 3 + case % 2 };
+    let place = 64 * ((case * 389 + 1_023 * (case % 3)) % 1_024);
+    let (_, kind) = KINDS[case % KINDS.len()];
+    plane_part(picture, place, &samples(kind, picture, case as u64))
+}
+
+/// Three parts of the plane of a tall or wide picture, or a large one, which repeats a few samples: its first values,
+/// its last, and some between.
+fn long_parts((width, height, channels): (usize, usize, usize)) -> Vec<String> {
+    let mut random = Random::new((width + height + channels) as u64);
+    let pattern = random.bytes(251);
+    let places = [0, 65_536 - 64, 64 * random.below(1_024) as usize];
+    let part = |place| plane_part(Picture { width, height, channels }, place, &pattern);
+    places.map(part).to_vec()
+}
+
+/// Sides of 1 to 9, sides about the plane's beside short ones, and sides up to the longest, for whose samples the replay
+/// program has room.
 fn plane_parts() -> Vec<String> {
     let small = (1..10).flat_map(|width| (1..10).map(move |height| (width, height)));
     let long = [
@@ -470,8 +519,32 @@ fn plane_parts() -> Vec<String> {
         (257, 3),
         (512, 2),
     ];
+    let longer = [
+        (1, 511),
+        (1, 512),
+        (1, 513),
+        (1, 1_021),
+        (1, 2_048),
+        (1, 8_191),
+        (1, 8_192),
+        (3, 8_192),
+        (31, 8_192),
+        (513, 3),
+        (1_021, 1),
+        (2_048, 2),
+        (8_191, 1),
+        (8_192, 1),
+        (8_192, 3),
+        (8_192, 31),
+        (512, 512),
+    ];
     let pictures = small.chain(long).enumerate();
-    pictures.map(|(case, (width, height))| plane_part(case, width, height)).collect()
+    let mut parts: Vec<String> =
+        pictures.map(|(case, (width, height))| small_part(case, width, height)).collect();
+    for (width, height) in longer {
+        parts.extend((3..5).flat_map(|channels| long_parts((width, height, channels))));
+    }
+    parts
 }
 
 /// 64 samples of a picture with a change put onto it. Both repeat a few values, so that a line is short.
@@ -484,7 +557,7 @@ fn change_part(case: usize, width: usize, height: usize, channels: usize) -> Str
     let length = width * height * channels;
     let place = [0, length - 64, random.below(length as u64 - 64) as usize][case % 3];
     let change: Vec<f32> = values.iter().copied().cycle().take(256 * 256).collect();
-    let mut bytes: Vec<u8> = pattern.iter().copied().cycle().take(length).collect();
+    let mut bytes = repeated(&pattern, Picture { width, height, channels });
     stages::change(&mut bytes, channels, width, height, &change);
     let (count, values) = (values.len(), floats(&values));
     let pattern = hex::of_bytes(&pattern);
@@ -493,13 +566,15 @@ fn change_part(case: usize, width: usize, height: usize, channels: usize) -> Str
     format!("{operand} {}", hex::of_bytes(&bytes[place..place + 64]))
 }
 
-/// Pictures no smaller than the plane, of at most 262,144 samples, for which the replay program has room.
+/// Pictures no smaller than the plane, and no larger than the replay program has room for: 512 x 512.
 fn change_parts() -> Vec<String> {
     let three = [256, 257, 263, 288, 307, 331, 341];
     let pairs = three.iter().flat_map(|&width| three.map(|height| (width, height, 3)));
     let pictures = pairs.filter(|(width, height, channels)| width * height * channels <= 262_144);
     let four = [(256, 256, 4); 8];
-    let pictures = pictures.chain(four).enumerate();
+    let large = [(512, 300), (300, 512), (511, 509), (512, 512), (512, 512)];
+    let large = large.into_iter().flat_map(|(width, height)| [3, 4].map(|n| (width, height, n)));
+    let pictures = pictures.chain(four).chain(large).enumerate();
     let line = |(case, (width, height, channels))| change_part(case, width, height, channels);
     pictures.map(line).collect()
 }
@@ -520,9 +595,14 @@ fn resample_lists() -> Vec<List> {
             windows.iter().flat_map(weights).collect(),
         ),
         list(
+            "luma",
+            "channels and the samples of a row; the luma of its pixels, f32.",
+            luma_rows(),
+        ),
+        list(
             "plane",
-            "width and height, two bytes each, channels, a place in the plane, two bytes, and the samples;\n\
-             64 values of the plane from this place on, f32.",
+            "width and height, two bytes each, channels, a place in the plane, two bytes, and the samples, repeated\n\
+             as often as needed; 64 values of the plane from this place on, f32.",
             plane_parts(),
         ),
         list(

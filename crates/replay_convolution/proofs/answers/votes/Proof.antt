@@ -15,8 +15,14 @@ abbrev μ-loop : tie.MeasureT-loop
 loop-holds : tie.Need-loop-holds Inv-loop μ-loop
 loop-holds c = search needs
 
-vote-requires : tie.Need-vote-requires Inv-loop μ-loop
-vote-requires c κs = search needs
+mul-word : tie.Need-mul-word Inv-loop μ-loop
+mul-word c = search needs
+
+word-requires : tie.Need-word-requires Inv-loop μ-loop
+word-requires c κs = search needs
+
+f32-of-requires : tie.Need-f32-of-requires Inv-loop μ-loop
+f32-of-requires c κs = search needs
 
 mul-soft : tie.Need-mul-soft Inv-loop μ-loop
 mul-soft c = search needs
@@ -43,7 +49,9 @@ votes-spec =
     Inv-loop
     μ-loop
     loop-holds
-    vote-requires
+    mul-word
+    word-requires
+    f32-of-requires
     mul-soft
     array-write-soft
     add-i

@@ -5,8 +5,8 @@ use lib.Ieee.{binary64}
 use lib.Ieee.Bits.{nanBits-above}
 use Rattle.float.specs.Base.{no}
 use borrow.Author.Needs.{needs}
-use Rattle.replay_resample.proofs.f64_of.Statement.{statement}
-use Rattle.replay_resample.proofs.f64_of.Tie as tie
+use Rattle.lists.proofs.stored.f64_of.Statement.{statement}
+use Rattle.lists.proofs.stored.f64_of.Tie as tie
 
 returns : tie.Need-returns
 returns c = search needs

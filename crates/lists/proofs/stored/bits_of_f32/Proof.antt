@@ -1,8 +1,8 @@
 -- A value that equals itself is no NaN, so it has one pattern. Assumes nothing.
-use borrow.Author.Needs.{needs}
 use Rattle.float.specs.Choice.{equals-itself}
-use Rattle.replay_resample.proofs.has_bits.Statement.{statement}
-use Rattle.replay_resample.proofs.has_bits.Tie as tie
+use borrow.Author.Needs.{needs}
+use Rattle.lists.proofs.stored.bits_of_f32.Statement.{statement}
+use Rattle.lists.proofs.stored.bits_of_f32.Tie as tie
 
 returns : tie.Need-returns
 returns c = search needs
@@ -16,5 +16,5 @@ widest-requires c κs = search needs
 returns-2 : tie.Need-returns-2
 returns-2 c = search needs
 
-pub has-bits-spec : {M : Type 1} → statement M
-has-bits-spec = tie.close (tie.spec returns float-to-bits-widest widest-requires returns-2)
+pub bits-of-f32-spec : {M : Type 1} → statement M
+bits-of-f32-spec = tie.close (tie.spec returns float-to-bits-widest widest-requires returns-2)

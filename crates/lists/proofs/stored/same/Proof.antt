@@ -1,33 +1,34 @@
 -- The place stays within the values; the measure is what is left of them. Assumes nothing.
 use borrow.Author.Needs.{needs}
 use Prim.Native.Nat.{_-_, _≤_}
+use mathlib.Core.Path.{_≡_}
 use lib.ListN.{length}
-use Rattle.replay_resample.proofs.same.Statement.{statement}
-use Rattle.replay_resample.proofs.same.Tie as tie
+use Rattle.lists.proofs.stored.same.Statement.{statement}
+use Rattle.lists.proofs.stored.same.Tie as tie
 
 abbrev Inv-loop : tie.InvT-loop
-Inv-loop values raw i₀ i = (i ≤ 64) × (64 ≤ length values) × (256 ≤ length raw)
+Inv-loop values raw i₀ i-end i = (i ≤ i-end) × (i-end ≡ length values)
 
 abbrev μ-loop : tie.MeasureT-loop
-μ-loop values raw i₀ i = 64 - i
+μ-loop values raw i₀ i-end i = i-end - i
 
 loop-holds : tie.Need-loop-holds Inv-loop μ-loop
 loop-holds c = search needs
 
-mul-has-bits : tie.Need-mul-has-bits Inv-loop μ-loop
-mul-has-bits c = search needs
+mul-bits-of-f32 : tie.Need-mul-bits-of-f32 Inv-loop μ-loop
+mul-bits-of-f32 c = search needs
 
-shared-slice-read-has-bits : tie.Need-shared-slice-read-has-bits Inv-loop μ-loop
-shared-slice-read-has-bits c = search needs
+shared-slice-read-bits-of-f32 : tie.Need-shared-slice-read-bits-of-f32 Inv-loop μ-loop
+shared-slice-read-bits-of-f32 c = search needs
+
+bits-of-f32-requires : tie.Need-bits-of-f32-requires Inv-loop μ-loop
+bits-of-f32-requires c κs = search needs
 
 mul-word : tie.Need-mul-word Inv-loop μ-loop
 mul-word c = search needs
 
 word-requires : tie.Need-word-requires Inv-loop μ-loop
 word-requires c κs = search needs
-
-has-bits-requires : tie.Need-has-bits-requires Inv-loop μ-loop
-has-bits-requires c κs = search needs
 
 returns : tie.Need-returns Inv-loop μ-loop
 returns c = search needs
@@ -51,11 +52,11 @@ same-spec =
     Inv-loop
     μ-loop
     loop-holds
-    mul-has-bits
-    shared-slice-read-has-bits
+    mul-bits-of-f32
+    shared-slice-read-bits-of-f32
+    bits-of-f32-requires
     mul-word
     word-requires
-    has-bits-requires
     returns
     add-i
     loop-less

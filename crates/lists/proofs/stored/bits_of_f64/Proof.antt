@@ -1,8 +1,8 @@
 -- A value that equals itself is no NaN, so it has one pattern. Assumes nothing.
 use Rattle.float.specs.Choice.{equals-itself}
 use borrow.Author.Needs.{needs}
-use Rattle.replay_float.proofs.call.bits_of_f64.Statement.{statement}
-use Rattle.replay_float.proofs.call.bits_of_f64.Tie as tie
+use Rattle.lists.proofs.stored.bits_of_f64.Statement.{statement}
+use Rattle.lists.proofs.stored.bits_of_f64.Tie as tie
 
 returns : tie.Need-returns
 returns c = search needs
