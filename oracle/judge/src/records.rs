@@ -25,7 +25,8 @@ fn lock() -> Lock {
     Lock { key: random.array(), salt: random.array() }
 }
 
-fn refusal(refused: Option<Refused>) -> String {
+/// The refusal's number, 0 where there is none, and the number given.
+pub fn refusal(refused: Option<Refused>) -> String {
     let refused = refused.unwrap_or(Refused::new(0, 0));
     format!("{:02x} {:x}", refused.number, refused.given)
 }

@@ -8,7 +8,7 @@ use std::path::Path;
 use judge::picture::{KINDS, Picture, samples};
 use judge::random::Random;
 use judge::soft::{damaged, sure, votes};
-use judge::{crc32, edges, hex, records, shuffles, stages, texts};
+use judge::{crc32, edges, hex, marks, records, shuffles, stages, texts};
 
 /// A replay program reads a list whole into a buffer of this size.
 const LARGEST: usize = 256 * 1_024;
@@ -630,6 +630,12 @@ fn record_lists() -> Vec<List> {
     ]
 }
 
+fn resilient_lists() -> Vec<List> {
+    let about = "channels of a 512 x 512 picture, text, key, salt; refusal (0 for none), number given, CRC-32 of the\n\
+                 samples after it; then the key to read with, refusal, number given. No refusal: the text is read.";
+    vec![List { program: "replay_resilient", name: "marks", about, lines: marks::lines() }]
+}
+
 fn main() -> std::io::Result<()> {
     let words: Vec<String> = std::env::args().skip(1).collect();
     let [folder, rustc] = &words[..] else {
@@ -645,6 +651,7 @@ fn main() -> std::io::Result<()> {
     lists.extend(convolution_lists());
     lists.extend(block_lists());
     lists.extend(resample_lists());
+    lists.extend(resilient_lists());
     for list in lists {
         list.write(Path::new(folder), rustc)?;
     }
