@@ -17,11 +17,15 @@
  * and sets *given to the number that goes with it, which is 0 where there is none and where all is done.
  *
  * Stack. Writing takes about 410 KiB of it, reading a picture 205 KiB, reading votes 15 KiB, whatever the
- * picture's size: see to that in threads with small stacks. No state is shared, so calls that write to
- * different memory may run at the same time.
+ * picture's size: see to that in threads with small stacks. No state is shared: calls may run at the
+ * same time where none writes to memory that another is lent.
+ *
+ * Floats. Results are those of C's default floating-point environment: rounding to nearest, subnormals
+ * kept, no traps. Link nothing that changes it, as -ffast-math may.
  *
  * What is answered, and what is left in all lent memory, is proved for every input: see the promises in
- * crates/vaikelomu/src/lib.rt. The figures of the stack are measured.
+ * crates/vaikelomu/src/lib.rt. The figures of the stack are measured. The proof has one NaN: that a refused
+ * call leaves the bits of a NaN in the work area too is run, not proved.
  */
 #ifndef VAIKELOMU_H
 #define VAIKELOMU_H
@@ -45,7 +49,7 @@ extern "C" {
 #define VAIKELOMU_SHORTEST_TO_WRITE 512
 #define VAIKELOMU_LONGEST 8192
 
-/* How many floats the work area needs at least. */
+/* How many floats the work area needs at least, for sides that are not too long. */
 #define VAIKELOMU_WORK_TO_WRITE(width, height) ((size_t)131072 + 2 * (size_t)(width) * (size_t)(height))
 #define VAIKELOMU_WORK_TO_READ(width, height) ((size_t)65536 + (size_t)(width) * (size_t)(height))
 
@@ -65,12 +69,12 @@ enum vaikelomu_answer {
     VAIKELOMU_BAD_CHANNELS = 5,              /* channels neither 3 nor 4: how many */
     VAIKELOMU_BAD_LENGTH = 6,                /* samples not width x height x channels, or votes not 1,024: how many */
     VAIKELOMU_WORK_TOO_SMALL = 7,            /* too few floats lent for work: how many are needed */
-    VAIKELOMU_NO_WATERMARK = 8,              /* a side of 0, or no mark found: 0 */
+    VAIKELOMU_NO_WATERMARK = 8,              /* reading, a side of 0, or no mark found: 0 */
     VAIKELOMU_UNSUPPORTED_VERSION = 9,       /* a mark of another kind: its mode byte */
     VAIKELOMU_NOT_ENCRYPTED = 10,            /* a plain mark, and a key: 0 */
     VAIKELOMU_PASSWORD_REQUIRED = 11,        /* a mark under a key, and none: the mark's salt, first byte highest */
     VAIKELOMU_DAMAGED = 12,                  /* a plain mark with wrong contents: 0 */
-    VAIKELOMU_WRONG_PASSWORD_OR_DAMAGED = 13, /* a mark under a key with wrong contents, or under another: 0 */
+    VAIKELOMU_WRONG_PASSWORD_OR_DAMAGED = 13,/* a mark under a key with wrong contents, or under another: 0 */
     VAIKELOMU_KEYSTREAM_END = 14,            /* the keystream ends too early: 0 */
     VAIKELOMU_BAD_VOTE = 15                  /* a vote that is not a number from -1 to 1: the place of the first */
 };

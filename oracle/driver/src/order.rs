@@ -64,8 +64,8 @@ fn compare_writes(tally: &mut Tally, random: &mut Random) {
     }
 }
 
-/// Sides and channels that nobody has memory for.
-const HUGE: [(usize, usize, usize, (u8, u64), (u8, u64)); 7] = [
+/// Sides and channels that nobody has memory for, and others that are refused by themselves.
+const HUGE: [(usize, usize, usize, (u8, u64), (u8, u64)); 11] = [
     (usize::MAX, usize::MAX, 3, (4, u64::MAX), (4, u64::MAX)),
     (usize::MAX, 512, 3, (4, u64::MAX), (4, u64::MAX)),
     (1 << 62, 512, 4, (4, 1 << 62), (4, 1 << 62)),
@@ -73,6 +73,10 @@ const HUGE: [(usize, usize, usize, (u8, u64), (u8, u64)); 7] = [
     (usize::MAX, 0, 4, (3, 0), (8, 0)),
     (512, 512, usize::MAX, (5, u64::MAX), (5, u64::MAX)),
     (512, 512, 1 << 46, (5, 1 << 46), (5, 1 << 46)),
+    (8_193, 9_000, 3, (4, 9_000), (4, 9_000)),
+    (9_000, 8_193, 4, (4, 9_000), (4, 9_000)),
+    (512, 512, 0, (5, 0), (5, 0)),
+    (512, 512, 1, (5, 1), (5, 1)),
 ];
 
 fn compare_huge(tally: &mut Tally, random: &mut Random) {
@@ -95,7 +99,7 @@ fn refused((number, given): (u8, u64)) -> Told {
     Told { number, given, length: 0, text: [0; ROOM] }
 }
 
-/// 8 for a zero side, 4, 5, 6, 7, and 8 for no mark: all sets of them.
+/// 8 for a zero side, 4, 5, 6 and 7: all sets of them, in a picture without a mark.
 fn compare_reads(tally: &mut Tally, random: &mut Random) {
     for set in 0..1 << 5 {
         let width = if has(set, 0) { 0 } else { 3 };

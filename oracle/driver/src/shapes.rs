@@ -62,9 +62,9 @@ pub fn shapes(random: &mut Random, scale: u64) -> Vec<Picture> {
     shapes.into_iter().map(picture).collect()
 }
 
-/// What the picture of a case shows: all kinds in turn.
+/// What the picture of a case shows: all kinds in turn, each with either number of channels and each side.
 pub fn kind(case: usize) -> (&'static str, Kind) {
-    let number = case % (KINDS.len() + SATURATED.len());
+    let number = (case / 2 + case / (2 * EDGES.len())) % (KINDS.len() + SATURATED.len());
     *KINDS.get(number).unwrap_or_else(|| &SATURATED[number - KINDS.len()])
 }
 

@@ -27,18 +27,15 @@ impl Tally {
         }
     }
 
-    /// Adds the counts of a stage.
+    /// Adds the counts of a stage. A function that is missing, and a stage that compared nothing, count as different.
     pub fn add(&mut self, stage: &Tally) {
         self.compared += stage.compared;
-        self.different += stage.different;
+        self.different += stage.different + stage.missing.len() as u64;
+        self.different += u64::from(stage.compared == 0);
     }
 
     /// The stage's line, and the first differences below it.
     pub fn print(&self, name: &str) {
-        if self.compared == 0 {
-            println!("{name}: missing, not landed yet");
-            return;
-        }
         print!("{name}: {} compared, {} different", self.compared, self.different);
         if !self.missing.is_empty() {
             print!("; missing: {}", self.missing.join(", "));

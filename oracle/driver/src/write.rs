@@ -26,7 +26,7 @@ type Write = unsafe extern "C" fn(
     &mut u64,
 ) -> u8;
 
-/// Texts that are refused, by the added check or by their length, and one that no UTF-8 is and that passes.
+/// Texts that are refused by the added check, and one that no UTF-8 is and that passes.
 const BAD: [&[u8]; 9] = [
     b"\x80",
     b"\xbf",
