@@ -104,12 +104,11 @@ static int write_mark(const char *in, const char *out, const char *text)
     uint8_t answer = vaikelomu_write(p.samples, p.length, p.width, p.height, CHANNELS,
                                      (const uint8_t *)text, strlen(text),
                                      0, no_key, no_salt, work, room, &given);
-    if (answer != VAIKELOMU_DONE)
-        return refused(answer, given);
-    write_ppm(out, p);
     free(work);
+    if (answer == VAIKELOMU_DONE)
+        write_ppm(out, p);
     free(p.samples);
-    return 0;
+    return answer == VAIKELOMU_DONE ? 0 : refused(answer, given);
 }
 
 static int read_mark(const char *in)
@@ -121,12 +120,12 @@ static int read_mark(const char *in)
     uint64_t given;
     uint8_t answer = vaikelomu_read(p.samples, p.length, p.width, p.height, CHANNELS,
                                     0, no_key, work, room, text, &length, &given);
+    free(work);
+    free(p.samples);
     if (answer != VAIKELOMU_DONE)
         return refused(answer, given);
     fwrite(text, 1, length, stdout);
     putchar('\n');
-    free(work);
-    free(p.samples);
     return 0;
 }
 
