@@ -16,7 +16,7 @@
  * Answers. Each function answers 0 (VAIKELOMU_DONE), or the number of the first refusal that applies,
  * and sets *given to the number that goes with it, which is 0 where there is none and where all is done.
  *
- * Stack. Writing takes about 410 KiB of it, reading a picture 205 KiB, reading votes 15 KiB, whatever the
+ * Stack. Writing takes about 515 KiB of it, reading a picture 310 KiB, reading votes 15 KiB, whatever the
  * picture's size: see to that in threads with small stacks. No state is shared: calls may run at the
  * same time where none writes to memory that another is lent.
  *

@@ -1,4 +1,4 @@
--- Crate `resample`: each public function's promise determines its outcome. Not here, since their module is private: `wide`, `row_across`, `add_row`. Assumes nothing.
+-- Crate `resample`: each public function's promise determines its outcome. Not here, since their modules are private: `wide`, `row_across`, `add_row`, `shares`, `luma_four`, `across_four`, `pick`, `next`. Assumes nothing.
 use Rattle.determined.specs.One.{Determined, one}
 use Rattle.resample.proofs as resample
 

@@ -2,6 +2,7 @@ pub mod Resampled
 pub mod Samples
 pub mod Tables
 pub mod Kept
+pub mod Lanes
 pub mod Lengths
 pub mod Pixels
 pub mod Sums

@@ -12,12 +12,11 @@ use lib.ListN.{length, getD, set, take, drop, length-drop}
 use lib.Seq.{length-take-le, set-getD, getD-append-add, getD-drop}
 use lib.Ieee.{Float, nan, binary32, add}
 use lib.Ieee.Bits.{is-true, is-false}
-use Rattle.seq.specs.Tab.{tab, filled, length-tab, getD-tab, tab-same, filled-more, filled-all}
+use Rattle.seq.specs.Tab.{tab, filled, length-tab, filled-more, filled-all}
 use Rattle.seq.specs.Rows.{row-fits}
 use Rattle.float.specs.Calls.{roundedByte}
-use Rattle.resample.specs.Samples.{Sized, changedAt, value, rowOf, lumaAt, narrowRow, wideRow, changedRow}
+use Rattle.resample.specs.Samples.{Sized, changedAt, value, rowOf, wideRow, changedRow}
 use Rattle.resample.specs.Resampled.{across}
-use Rattle.resample.specs.Tables.{across-same}
 
 -- ---- a list whose first places are made by a function
 
@@ -53,15 +52,6 @@ unfolding rowOf
 length-row n d y h = length-take-le n (drop (y * n) d) (omega (arith, length-drop (y * n) d))
 
 -- ---- a row put through its taps
-
-pub narrowed : (width channels : ℕ) (samples : List ℕ) (i n : ℕ) (line out : List Float) → 0 < width → n ≡ 256 → line ≡ tab (lumaAt channels (rowOf (width * channels) samples i)) width → out ≡ tab (across (length line) n (λ k. getD line k nan)) n → out ≡ narrowRow width channels samples i
-unfolding narrowRow
-narrowed width channels samples i n line out some m e o =
-    let f : ℕ → Float = lumaAt channels (rowOf (width * channels) samples i) in
-    let l : length line ≡ width = ap length e ∙ length-tab f width in
-    (rw (l, m) at o)
-    ∙ tab-same (across width 256 (λ k. getD line k nan)) (across width 256 f) 256
-    (λ x k. across-same width 256 (λ k. getD line k nan) f x some (λ k b. ap (λ (xs : List Float). getD xs k nan) e ∙ getD-tab f width k nan b))
 
 pub widened : (n : ℕ) (change : List Float) (k : ℕ) (part out : List Float) → k * 256 + 256 ≤ length change → part ≡ rowOf 256 change k → out ≡ tab (across (length part) n (λ i. getD part i nan)) n → out ≡ wideRow n change k
 unfolding wideRow

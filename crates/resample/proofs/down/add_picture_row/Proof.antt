@@ -1,5 +1,6 @@
 -- The row is kept, and then added.
 use mathlib.Core.Path.{_≡_, sym, _∙_, ap}
+use Prim.Native.Nat.{_/_}
 use native.Mathlib.Omega.{arith}
 use lib.ListN.{length, drop, take}
 use Rattle.seq.specs.Tab.{length-tab}
@@ -34,8 +35,8 @@ add-row-requires c κs =
     let a = p .args in
     let kept = c .before .before .before .before .before .before .before .before .before .keep in
     let at = kept .result in
-    let row : take 256 (drop at (kept .last .1 .1 .1 .1 .1 .1 .1 .1 .0)) ≡ narrowRow (length (a .line .now)) (a .channels) (a .samples .now) (a .i) = rw (← kept .ensures .0) at (kept .ensures .1 .1 .1) in
-    p .pre .4 ∙ sym (rw (part-size at 256, row) (narrow-length (length (a .line .now)) (a .channels) (a .samples .now) (a .i)))
+    let row : take 256 (drop at (kept .last .1 .1 .1 .1 .1 .1 .1 .1 .0)) ≡ narrowRow (length (a .line .now) / 4) (a .channels) (a .samples .now) (a .i) = rw (← kept .ensures .0) at (kept .ensures .1 .1 .1) in
+    p .pre .4 ∙ sym (rw (part-size at 256, row) (narrow-length (length (a .line .now) / 4) (a .channels) (a .samples .now) (a .i)))
 
 same-length : tie.Need-same-length
 same-length c = c .before .before .before .before .before .before .before .before .before .before .before .before .keep .ensures .1 .0
@@ -55,7 +56,7 @@ returns c =
     let a = p .args in
     let kept = c .before .before .before .before .before .before .before .before .before .before .before .before .keep in
     let at = kept .result in
-    let row : take 256 (drop at (kept .last .1 .1 .1 .1 .1 .1 .1 .1 .0)) ≡ narrowRow (length (a .line .now)) (a .channels) (a .samples .now) (a .i) = rw (← kept .ensures .0) at (kept .ensures .1 .1 .1) in
+    let row : take 256 (drop at (kept .last .1 .1 .1 .1 .1 .1 .1 .1 .0)) ≡ narrowRow (length (a .line .now) / 4) (a .channels) (a .samples .now) (a .i) = rw (← kept .ensures .0) at (kept .ensures .1 .1 .1) in
     (kept .ensures .1 .0, (kept .ensures .1 .1 .0, rw (part-size at 256, row, p .pre .4) at (c .before .before .add-row .ensures)))
 
 pub add-picture-row-spec : {M : Type 1} → statement M

@@ -1,7 +1,7 @@
 -- After k numbers of the window the sum is that of the rows among them that have a weight.
 use mathlib.Core.Path.{_≡_, refl, sym, _∙_, ap}
 use mathlib.Core.List.{[]}
-use Prim.Native.Nat.{_+_, _-_, _^_, _≤_, _<_}
+use Prim.Native.Nat.{_+_, _-_, _^_, _≤_, _<_, _/_}
 use native.Mathlib.Omega.{arith}
 use lib.IntN.{pos, _+ℤ_}
 use lib.ListN.{length}
@@ -21,7 +21,7 @@ use Rattle.resample.proofs.down.add_window.Tie as tie
 
 abbrev Inv-loop : tie.InvT-loop
 Inv-loop w height channels samples offsets index weight line₀ rows₀ held₀ sum₀ first last count k₀ line rows held sum k =
-    (k ≤ count) × (length line ≡ length line₀) × Kept (narrowRow (length line₀) channels samples) 256 256 64 held rows × (sum ≡ sumRows 256 (narrowRow (length line₀) channels samples) (tapsTo w height k))
+    (k ≤ count) × (length line ≡ length line₀) × Kept (narrowRow (length line₀ / 4) channels samples) 256 256 64 held rows × (sum ≡ sumRows 256 (narrowRow (length line₀ / 4) channels samples) (tapsTo w height k))
     × (length rows ≡ length rows₀) × (length held ≡ length held₀) × (length sum ≡ length sum₀)
 
 abbrev μ-loop : tie.MeasureT-loop
@@ -108,7 +108,7 @@ loop-again-2 c =
     let a = c .before .before .before .before .before .before .before .before .before .before .before .before .before .before .before .before .before .before .before .before .before .before .before .before .before .before .before .before .before .before .before .before .args in
     let at = c .before .before .before .before .before .before .before .before .before .before .before .before .before .before .before .before .before .before .before .before .loop in
     let added = c .before .before .before .before .before .before .before .before .add-picture-row in
-    let row = narrowRow (length (a .line .now)) (a .channels) (a .samples .now) in
+    let row = narrowRow (length (a .line .now) / 4) (a .channels) (a .samples .now) in
     let t : Tap = record { from = clampOf (a .height) (a .w .first +ℤ pos (at .k)); weight = c .before .before .before .before .before .before .before .before .before .before .before .before .before .before .before .q .given .0 .0 } in
     let of : weightOf (a .w) (a .w .first +ℤ pos (at .k)) ≡ Of (t .weight) = sym (weighed (c .before .before .before .before .before .before .before .before .before .before .before .before .before .before .before .before .before)) ∙ c .before .before .before .before .before .before .before .before .before .before .before .before .before .before .before .q .given .1 in
     let from : c .before .before .before .before .before .before .before .before .before .before .before .before .before .clamp .result ≡ t .from = c .before .before .before .before .before .before .before .before .before .before .before .before .before .clamp .ensures ∙ ap (clampOf (a .height)) (number (c .before .before .before .before .before .before .before .before .before .before .before .before .before .before .before .before .before .before)) in

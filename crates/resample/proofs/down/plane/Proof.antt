@@ -1,6 +1,6 @@
 -- The tables fit by `room-down`, are what `window` makes, and no row is kept at first.
 use mathlib.Core.Path.{_≡_}
-use Prim.Native.Nat.{ℕ, _-_, _≤_}
+use Prim.Native.Nat.{ℕ, _-_, _*_, _/_, _≤_}
 use native.Mathlib.Nat.{le-refl}
 use native.Mathlib.Omega.{arith}
 use lib.ListN.{length, take, replicate, length-replicate}
@@ -15,8 +15,11 @@ use Rattle.resample.proofs.down.plane.Statement.{statement}
 use Rattle.resample.proofs.down.plane.Tie as tie
 
 -- the part of the line that is lent
-first : (n : ℕ) → n ≤ 8192 → length (take (n - 0) (replicate 8192 zero+)) ≡ n
-first n h = let e : n - 0 ≡ n = omega arith in rw e (length-take-le n (replicate 8192 zero+) (omega (arith, length-replicate 8192 zero+)))
+first : (n : ℕ) → n ≤ 8192 → length (take (4 * n - 0) (replicate 32768 zero+)) / 4 ≡ n
+first n h =
+    let e : 4 * n - 0 ≡ 4 * n = omega arith in
+    let l : length (take (4 * n) (replicate 32768 zero+)) ≡ 4 * n = length-take-le (4 * n) (replicate 32768 zero+) (omega (arith, length-replicate 32768 zero+)) in
+    rw e (omega (arith, l))
 
 slice-aggregate-taps : tie.Need-slice-aggregate-taps
 slice-aggregate-taps c = search needs
@@ -38,6 +41,9 @@ slice-aggregate-plane-rows-2 c = search needs
 
 slice-aggregate-plane-rows-3 : tie.Need-slice-aggregate-plane-rows-3
 slice-aggregate-plane-rows-3 c = search needs
+
+mul-plane-rows : tie.Need-mul-plane-rows
+mul-plane-rows c = search needs
 
 sub-plane-rows : tie.Need-sub-plane-rows
 sub-plane-rows c = search needs
@@ -88,6 +94,7 @@ plane-spec =
     slice-aggregate-plane-rows
     slice-aggregate-plane-rows-2
     slice-aggregate-plane-rows-3
+    mul-plane-rows
     sub-plane-rows
     part-line-start
     part-line-end

@@ -1,7 +1,7 @@
 -- After y rows they stand in the first places of the plane.
 use mathlib.Core.Path.{_≡_, refl, sym, _∙_, ap}
 use mathlib.Core.List.{List}
-use Prim.Native.Nat.{_+_, _-_, _*_, _≤_, _<_}
+use Prim.Native.Nat.{_+_, _-_, _*_, _≤_, _<_, _/_}
 use native.Mathlib.Omega.{arith}
 use lib.ListN.{length, take, drop, length-drop}
 use lib.Seq.{length-take-le, take-all}
@@ -18,7 +18,7 @@ use Rattle.resample.proofs.down.plane_rows.Tie as tie
 
 abbrev Inv-loop : tie.InvT-loop
 Inv-loop height channels samples offsets index weight line₀ rows₀ held₀ plane₀ y₀ line rows held plane y =
-    (y ≤ 256) × (length line ≡ length line₀) × Kept (narrowRow (length line₀) channels samples) 256 256 64 held rows × (take (y * 256) plane ≡ lines (planeRow (length line₀) height channels samples) y)
+    (y ≤ 256) × (length line ≡ length line₀) × Kept (narrowRow (length line₀ / 4) channels samples) 256 256 64 held rows × (take (y * 256) plane ≡ lines (planeRow (length line₀ / 4) height channels samples) y)
     × (length rows ≡ length rows₀) × (length held ≡ length held₀) × (length plane ≡ length plane₀)
 
 abbrev μ-loop : tie.MeasureT-loop
@@ -68,15 +68,15 @@ loop-again c =
     let a = p .args in
     let at = c .before .before .before .before .before .before .before .before .before .before .before .before .before .before .loop in
     let made = c .before .before .before .before .before .before .before .before .plane-row in
-    let row = planeRow (length (a .line .now)) (a .height) (a .channels) (a .samples .now) in
+    let row = planeRow (length (a .line .now) / 4) (a .height) (a .channels) (a .samples .now) in
     let kept = rw (at .inv .1) at (made .ensures .1 .0) in
     let v = made .last .1 .1 .1 .1 .1 .1 .1 .1 .1 .1 .0 in
     let is : v ≡ row (at .y) = rw (at .inv .1) at (made .ensures .1 .1) in
-    let long : length v ≡ 256 = ap length is ∙ plane-length (length (a .line .now)) (a .height) (a .channels) (a .samples .now) (at .y) in
+    let long : length v ≡ 256 = ap length is ∙ plane-length (length (a .line .now) / 4) (a .height) (a .channels) (a .samples .now) (at .y) in
     let room : at .y * 256 + 256 ≤ length (at .plane) = omega (arith, c .before .before .before .before .before .before .before .before .before .before .before .before .before .loop-test .taken) in
     let less : at .y < 256 = c .before .before .before .before .before .before .before .before .before .before .before .before .before .loop-test .taken in
     let more : take ((at .y + 1) * 256) (onPart (at .y * 256) 256 (λ (x : List Float). v) (at .plane)) ≡ lines row (at .y + 1) =
-    rw (part-pasted (at .y * 256) 256 v (at .plane) long, is) (lines-more 256 row (at .y) (at .plane) room (plane-length (length (a .line .now)) (a .height) (a .channels) (a .samples .now) (at .y)) (at .inv .3)) in (
+    rw (part-pasted (at .y * 256) 256 v (at .plane) long, is) (lines-more 256 row (at .y) (at .plane) room (plane-length (length (a .line .now) / 4) (a .height) (a .channels) (a .samples .now) (at .y)) (at .inv .3)) in (
       omega arith,
       made .ensures .0 ∙ at .inv .1,
       kept,
