@@ -6,7 +6,9 @@ pub mod Crc32
 pub mod Chacha20
 pub mod Utf8
 pub mod Record
+pub mod Shuffle
 pub mod Layout
+pub mod Dither
 pub mod Convolution
 pub mod Block
 pub mod Marking

@@ -2,9 +2,4 @@ pub mod Layout
 pub mod Permutation
 pub mod Places
 pub mod Loops
-pub mod Dither
-pub mod Shuffle
-pub mod Draws
-pub mod Entries
-pub mod Distinct
 pub mod Examples

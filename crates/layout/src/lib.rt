@@ -6,9 +6,6 @@ ghost use Rattle.layout.specs.Layout.{layout, blockOf};
 ghost use Rattle.layout.specs.Places.{blockBits, gathered};
 use table::LAYOUT;
 
-pub mod dither;
-mod key;
-pub mod shuffle;
 mod table;
 
 // The block in which each place stands.

@@ -11,7 +11,7 @@ use Rattle.seq.specs.Tab.{length-tab, getD-tab}
 use Rattle.float.specs.Calls.{inUnit}
 use Rattle.float.specs.Bounds.{Within, value-within}
 use Rattle.float.specs.Unit.{within-unit}
-use Rattle.layout.specs.Dither.{ditherOf, dither-exact}
+use Rattle.dither.specs.Dither.{ditherOf, dither-exact}
 use Rattle.block.specs.Grid.{cell, cell-grid}
 use Rattle.block.specs.Transform.{forwardOf, inverseOf}
 use Rattle.block.specs.Mark.{markedBlock}

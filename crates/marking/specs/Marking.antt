@@ -4,7 +4,7 @@ use Prim.Native.Nat.{ℕ, _+_, _*_, _/_, _%_}
 use lib.ListN.{getD}
 use lib.Ieee.{Float, binary32, sub}
 use Rattle.seq.specs.Tab.{tab}
-use Rattle.layout.specs.Dither.{ditherOf}
+use Rattle.dither.specs.Dither.{ditherOf}
 use Rattle.block.specs.Grid.{grid, cell}
 use Rattle.block.specs.Transform.{forwardOf, inverseOf}
 use Rattle.block.specs.Mark.{markedBlock}

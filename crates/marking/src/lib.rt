@@ -7,7 +7,7 @@ use block::inverse;
 use block::load_block;
 use block::mark_block;
 use block::store_block;
-use layout::dither::dither;
+use dither::dither;
 ghost use mathlib.Core.Path.{_≡_};
 ghost use Prim.Native.Nat.{_+_, _*_, _<_};
 ghost use lib.ListN.{length, getD};

@@ -1,4 +1,4 @@
-// Replays stored answers for crate `layout`. The Rust's own: the layout, which our shuffle makes again, the
+// Replays stored answers for crates `layout`, `shuffle` and `dither`. The Rust's own: the layout, which our shuffle makes again, the
 // dither, and shuffles of many keys and lengths. No key at hand brings about a number that is drawn again, and the
 // Rust has no function for a single draw, so the answers for the draw on chosen values (accepted.txt) are the
 // oracle's: it computes them in oracle/judge/src/shuffles.rs by the formula that stands within the Rust's shuffle.
@@ -49,13 +49,13 @@ fn key_of(raw: &[u8; 50]) -> [u8; 32] {
 fn lays(raw: &[u8; 50], expected: &[u8; 8202]) -> bool {
     let table = layout::layout();
     let mut made = [0u16; 1024];
-    let found = layout::shuffle::shuffle(&key_of(raw), 1024, 1024, &mut made);
+    let found = shuffle::shuffle(&key_of(raw), 1024, 1024, &mut made);
     found == 1024 && same_entries(&table, expected, 0) && same_entries(&made, expected, 0)
 }
 
 // The number of a group, and its sixteen numbers by their bits. None of them is a zero, so that equal ones have equal bits.
 fn dithers(raw: &[u8; 50], expected: &[u8; 8202]) -> bool {
-    let ours = layout::dither::dither(word(raw, 0) as u32);
+    let ours = dither::dither(word(raw, 0) as u32);
     for k in 0..16usize {
         if ours[k] != f32_of(word(expected, 4 * k)) {
             return false;
@@ -87,13 +87,13 @@ fn shuffled(raw: &[u8; 50], expected: &[u8; 8202], places: &mut [u16]) -> bool
     let key = key_of(raw);
     let len = number(raw, 32) as usize;
     let count = number(raw, 40) as usize;
-    let found = layout::shuffle::shuffle(&key, len, count, places);
+    let found = shuffle::shuffle(&key, len, count, places);
     found as u64 == pair(expected[0], expected[1]) && same_entries(places, expected, 2)
 }
 
 // A number drawn and the range, and 1 where it is taken.
 fn accepts(raw: &[u8; 50], expected: &[u8; 8202]) -> bool {
-    layout::shuffle::accepted(number(raw, 0), number(raw, 8)) == (expected[0] == 1)
+    shuffle::accepted(number(raw, 0), number(raw, 8)) == (expected[0] == 1)
 }
 
 fn agrees(text: &[u8], stage: Stage, operand: Field, result: Field) -> bool

@@ -1,4 +1,4 @@
-// Crates `crc32`, `utf8`, `layout` and `convolution`.
+// Crates `crc32`, `utf8`, `shuffle`, `layout`, `dither` and `convolution`.
 ghost use mathlib.Core.Path.{_≡_};
 ghost use Prim.Native.Nat.{_+_, _*_};
 ghost use lib.ListN.{length};
@@ -6,9 +6,9 @@ ghost use Rattle.seq.specs.Tab.{tab};
 ghost use Rattle.crc32.specs.Ieee8023.{crcOf};
 ghost use Rattle.utf8.specs.Rfc3629.{wellFormed};
 ghost use Rattle.utf8.specs.Counted.{counted};
-ghost use Rattle.layout.specs.Dither.{ditherOf};
+ghost use Rattle.dither.specs.Dither.{ditherOf};
 ghost use Rattle.layout.specs.Places.{blockBits, gathered};
-ghost use Rattle.layout.specs.Shuffle.{shuffleOf, lentFor};
+ghost use Rattle.shuffle.specs.Shuffle.{shuffleOf, lentFor};
 ghost use Rattle.convolution.specs.Ccsds131.{encodeOf};
 ghost use Rattle.convolution.specs.Decoder.{floats, decoded, strength};
 ghost use Rattle.convolution.specs.RecordBits.{recordOf};
@@ -52,7 +52,7 @@ pub extern "C" fn vk_gather(votes: &[f32; 1024], soft: &mut [f32; 748])
 pub extern "C" fn vk_dither(group: u32, numbers: &mut [f32; 16])
     ensures { λ _. ⌜ now (numbers .exit) ≡ tab (λ k. ditherOf (16 * group + k)) 16 ⌝ }
 {
-    *numbers = layout::dither::dither(group);
+    *numbers = dither::dither(group);
 }
 
 #[no_mangle]
@@ -60,7 +60,7 @@ pub extern "C" fn vk_shuffle(key: &[u8; 32], len: usize, count: usize, entries: 
     ensures number { λ r. ⌜ r ≡ length (shuffleOf (now (key .entry)) len count (length (now (entries .entry)))) ⌝ }
     ensures lent { λ _. ⌜ now (entries .exit) ≡ lentFor (length (now (entries .entry))) (shuffleOf (now (key .entry)) len count (length (now (entries .entry)))) ⌝ }
 {
-    layout::shuffle::shuffle(key, len, count, entries)
+    shuffle::shuffle(key, len, count, entries)
 }
 
 #[no_mangle]

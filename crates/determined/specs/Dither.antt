@@ -1,0 +1,6 @@
+-- Crate `dither`: each public function's promise determines its outcome. Assumes nothing.
+use Rattle.determined.specs.One.{Determined, one}
+use Rattle.dither.proofs as dither
+
+pub dither-one : Determined dither.dither.ended dither.dither.Reads.Post
+dither-one κs a x y p q i = (one p q i, x .1)

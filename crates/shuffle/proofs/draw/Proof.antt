@@ -1,0 +1,108 @@
+-- What is drawn from `from` on is what is drawn from `at` on; each turn uses eight bytes of those left. Assumes nothing.
+use borrow.Author.Needs.{needs}
+use mathlib.Core.Bool.{true, false}
+use mathlib.Core.List.{List}
+use mathlib.Core.Path.{_≡_, sym, ap, _∙_}
+use Prim.Native.Nat.{ℕ, _+_, _≤_, _<_}
+use native.Mathlib.Omega.{arith}
+use denote.Ref.{now}
+use lib.Dec.{ltb}
+use lib.ListN.{getD}
+use Rattle.chacha20.specs.Laws.{applied-next, next-granted, end-refused}
+use Rattle.chacha20.specs.declared.Applied.the-variants.{Next}
+use Rattle.chacha20.specs.Apply.{leftAt, appliedOf}
+use Rattle.shuffle.specs.Shuffle.{valueAt, limit, drawn, drawsFrom, streamOf}
+use Rattle.shuffle.specs.Draws.{range-some, draws-end, draws-found, draws-again, value-drawn}
+use Rattle.shuffle.proofs.draw.Statement.{statement}
+use Rattle.shuffle.proofs.draw.Tie as tie
+
+abbrev Inv-loop : tie.InvT-loop
+Inv-loop key from range nonce at₀ at = drawn (streamOf key) range (drawsFrom at) at ≡ drawn (streamOf key) range (drawsFrom from) from
+
+abbrev μ-loop : tie.MeasureT-loop
+μ-loop key from range nonce at₀ at = leftAt at
+
+granted : (c : tie.After-next Inv-loop μ-loop) → let at = c .before .before .before .before .before .before .loop .at in (8 ≤ leftAt at) × (c .next .given .0 .0 ≡ at + 8)
+granted c =
+    let at = c .before .before .before .before .before .before .loop .at in
+    let next = c .next .given .0 .0 in
+    let answer : appliedOf at 8 ≡ Next next = sym (c .before .before .before .apply .ensures .0) ∙ c .next .given .1 in
+    let enough : 8 ≤ leftAt at = next-granted at 8 next answer in
+    (enough, cc (applied-next at 8 enough))
+
+drawn-value : (c : tie.After-value-of Inv-loop μ-loop) → c .value-of .result ≡ valueAt (streamOf (now (c .before .before .before .before .before .before .before .before .before .before .args .key))) (c .before .before .before .before .before .before .before .before .before .loop .at)
+drawn-value c =
+    c .value-of .ensures
+    ∙ (ap (λ (l : List ℕ). valueAt (λ k. getD l k 0) 0) (c .before .before .before .before .before .before .apply .ensures .1)
+    ∙ value-drawn _ _ (granted (c .before .before .before) .0))
+
+loop-holds : tie.Need-loop-holds Inv-loop μ-loop
+loop-holds c = search needs
+
+slice-aggregate-apply : tie.Need-slice-aggregate-apply Inv-loop μ-loop
+slice-aggregate-apply c = search needs
+
+apply-requires : tie.Need-apply-requires Inv-loop μ-loop
+apply-requires c κs = search needs
+
+enum-known-next : tie.Need-enum-known-next Inv-loop μ-loop
+enum-known-next c = search needs
+
+enum-told : tie.Need-enum-told Inv-loop μ-loop
+enum-told c = search needs
+
+returns : tie.Need-returns Inv-loop μ-loop
+returns c =
+    let l = c .before .before .before .before .before .before .loop in
+    let start = c .before .before .before .before .before .before .before .args in
+    let few : leftAt (l .at) < 8 = end-refused (l .at) 8 (sym (c .before .before .before .apply .ensures .0) ∙ c .enum-told .given .1) in
+    sym (draws-end (streamOf (now (start .key))) (start .range) (l .at) few) ∙ l .inv
+
+value-of-requires : tie.Need-value-of-requires Inv-loop μ-loop
+value-of-requires c κs = search needs
+
+accepted-requires : tie.Need-accepted-requires Inv-loop μ-loop
+accepted-requires c κs = search needs
+
+rem-t15 : tie.Need-rem-t15 Inv-loop μ-loop
+rem-t15 c = range-some _ _ (sym (c .before .accepted .ensures) ∙ c .if1 .taken)
+
+returns-2 : tie.Need-returns-2 Inv-loop μ-loop
+returns-2 c =
+    let l = c .before .before .before .before .before .before .before .before .before .before .before .loop in
+    let start = c .before .before .before .before .before .before .before .before .before .before .before .before .args in
+    let g = granted (c .before .before .before .before .before) in
+    let v = drawn-value (c .before .before) in
+    let t : ltb (valueAt (streamOf (now (start .key))) (l .at)) (limit (start .range)) ≡ true = sym (ap (λ (n : ℕ). ltb n (limit (start .range))) v) ∙ (sym (c .before .accepted .ensures) ∙ c .if1 .taken) in
+    rw (v, g .1) (sym (draws-found (streamOf (now (start .key))) (start .range) (l .at) (g .0) t) ∙ l .inv)
+
+loop-less : tie.Need-loop-less Inv-loop μ-loop
+loop-less c = let g = granted (c .before .before .before .before .before) in omega (arith, g .0, g .1)
+
+loop-again : tie.Need-loop-again Inv-loop μ-loop
+loop-again c =
+    let l = c .before .before .before .before .before .before .before .before .before .before .before .loop in
+    let start = c .before .before .before .before .before .before .before .before .before .before .before .before .args in
+    let g = granted (c .before .before .before .before .before) in
+    let v = drawn-value (c .before .before) in
+    let t : ltb (valueAt (streamOf (now (start .key))) (l .at)) (limit (start .range)) ≡ false = sym (ap (λ (n : ℕ). ltb n (limit (start .range))) v) ∙ (sym (c .before .accepted .ensures) ∙ c .if1 .left) in
+    rw (g .1) (sym (draws-again (streamOf (now (start .key))) (start .range) (l .at) (g .0) t) ∙ l .inv)
+
+pub draw-spec : {M : Type 1} → statement M
+draw-spec =
+    tie.close
+    (tie.spec
+    Inv-loop
+    μ-loop
+    loop-holds
+    slice-aggregate-apply
+    apply-requires
+    enum-known-next
+    enum-told
+    returns
+    value-of-requires
+    accepted-requires
+    rem-t15
+    returns-2
+    loop-less
+    loop-again)

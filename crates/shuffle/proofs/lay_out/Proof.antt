@@ -1,0 +1,68 @@
+-- The first k places hold their entries or 0, k rising. Assumes nothing.
+use borrow.Author.Needs.{needs}
+use mathlib.Core.Path.{_≡_, _∙_}
+use Prim.Native.Nat.{ℕ, _-_, _≤_}
+use native.Mathlib.Omega.{arith}
+use lib.ListN.{length, getD}
+use Rattle.seq.specs.Tab.{filled, filled-none, filled-more, filled-all}
+use Rattle.shuffle.specs.Shuffle.{lentFor}
+use Rattle.shuffle.proofs.lay_out.Statement.{statement}
+use Rattle.shuffle.proofs.lay_out.Tie as tie
+
+abbrev Inv-loop : tie.InvT-loop
+Inv-loop found entries₀ k₀ k-end entries k = (k ≤ length entries₀) × (k-end ≡ length entries₀) × (length entries ≡ length entries₀) × (entries ≡ filled (λ (i : ℕ). getD found i 0) k entries₀)
+
+abbrev μ-loop : tie.MeasureT-loop
+μ-loop found entries₀ k₀ k-end entries k = length entries₀ - k
+
+loop-holds : tie.Need-loop-holds Inv-loop μ-loop
+loop-holds c = (search needs, search needs, search needs, filled-none (λ (i : ℕ). getD (c .before .before .args .found .now) i 0) (c .before .before .args .entries .now))
+
+entry-at-requires : tie.Need-entry-at-requires Inv-loop μ-loop
+entry-at-requires c κs = search needs
+
+mul-entries : tie.Need-mul-entries Inv-loop μ-loop
+mul-entries c = search needs
+
+slice-write-entries : tie.Need-slice-write-entries Inv-loop μ-loop
+slice-write-entries c = search needs
+
+add-k : tie.Need-add-k Inv-loop μ-loop
+add-k c = search needs
+
+loop-less : tie.Need-loop-less Inv-loop μ-loop
+loop-less c = search needs
+
+loop-again : tie.Need-loop-again Inv-loop μ-loop
+loop-again c =
+    let l = c .before .before .loop in
+    let start = c .before .before .before .before .before .args in
+    let f : ℕ → ℕ = λ (i : ℕ). getD (start .found .now) i 0 in
+    (search needs, search needs, search needs, rw (l .inv .3, c .entry-at .ensures) (filled-more f (l .k) (start .entries .now) (search needs)))
+
+same-length : tie.Need-same-length Inv-loop μ-loop
+same-length c = search needs
+
+returns : tie.Need-returns Inv-loop μ-loop
+unfolding lentFor
+returns c =
+    let l = c .before .loop in
+    let start = c .before .before .before .before .args in
+    let k : l .k ≡ length (start .entries .now) = omega arith in
+    l .inv .3 ∙ (rw k (filled-all (λ (i : ℕ). getD (start .found .now) i 0) (start .entries .now)))
+
+pub lay-out-spec : {M : Type 1} → statement M
+lay-out-spec =
+    tie.close
+    (tie.spec
+    Inv-loop
+    μ-loop
+    loop-holds
+    entry-at-requires
+    mul-entries
+    slice-write-entries
+    add-k
+    loop-less
+    loop-again
+    same-length
+    returns)

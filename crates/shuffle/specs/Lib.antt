@@ -1,0 +1,5 @@
+pub mod Shuffle
+pub mod Draws
+pub mod Entries
+pub mod Distinct
+pub mod Examples

@@ -1,0 +1,71 @@
+-- The keyed shuffle. Document 01: "for i from 0, range = len - i; draw 8 keystream bytes little-endian; draw again while the
+-- value is not below the largest multiple of range that is at most 2^64; r = value mod range; exchange entries i and i + r of
+-- the list 0, 1, 2 and so on." Definitions for any stream and any length of list, and what `shuffle` gives. Assumes nothing.
+use mathlib.Core.Bool.{Bool, true, false, cond}
+use mathlib.Core.List.{List, []}
+use Prim.Native.Nat.{ℕ, zero, suc, _+_, _-_, _*_, _/_, _%_, _^_, min}
+use lib.Dec.{leb, ltb}
+use lib.ListN.{length, getD, set, take, replicate}
+use Rattle.seq.specs.Tab.{tab}
+use Rattle.chacha20.specs.Rfc8439.{keystream}
+use Rattle.chacha20.specs.Apply.{leftAt}
+use Rattle.shuffle.specs.declared.Drawn.{Drawn}
+use Rattle.shuffle.specs.declared.Drawn.the-variants.{Found, End}
+
+-- eight bytes of a stream from place p on, the lowest first
+unfoldable pub valueAt : (ℕ → ℕ) → ℕ → ℕ
+valueAt stream p =
+    stream p + stream (p + 1) * 2 ^ 8 + stream (p + 2) * 2 ^ 16 + stream (p + 3) * 2 ^ 24
+    + stream (p + 4) * 2 ^ 32 + stream (p + 5) * 2 ^ 40 + stream (p + 6) * 2 ^ 48 + stream (p + 7) * 2 ^ 56
+
+-- the largest multiple of range that is at most 2^64
+unfoldable pub limit : ℕ → ℕ
+limit range = 2 ^ 64 / range * range
+
+-- a number r that is taken, where place q is the next; or one drawn again from there on
+abbrev pub orAgain : Bool → ℕ → ℕ → (ℕ → Drawn) → Drawn
+orAgain true r q again = Found r q
+orAgain false r q again = again q
+
+-- drawn from place p on, where the stream has bytes for n draws: the number below range and the place after it, or that the
+-- stream ends
+unfoldable pub drawn : (ℕ → ℕ) → ℕ → ℕ → ℕ → Drawn
+drawn stream range zero p = End
+drawn stream range (suc n) p = orAgain (ltb (valueAt stream p) (limit range)) (valueAt stream p % range) (p + 8) (drawn stream range n)
+
+-- how many draws the keystream has bytes for from place p on
+abbrev pub drawsFrom : ℕ → ℕ
+drawsFrom p = leftAt p / 8
+
+-- the entries i and j of a list exchanged
+unfoldable pub exchanged : ℕ → ℕ → List ℕ → List ℕ
+exchanged i j l = set (set l i (getD l j 0)) j (getD l i 0)
+
+-- what follows a draw, where the stream ended and where a number was found
+abbrev pub onward : {A : Type 0} → Drawn → A → (ℕ → ℕ → A) → A
+onward (Found r p) ended found = found r p
+onward End ended found = ended
+
+-- n entries more of the list l, of which i are made, drawn from place p on; those made where the stream ends
+unfoldable pub made : (ℕ → ℕ) → ℕ → ℕ → ℕ → List ℕ → List ℕ
+made stream zero i p l = take i l
+made stream (suc n) i p l = onward (drawn stream (length l - i) (drawsFrom p) p) (take i l) (λ r q. made stream n (i + 1) q (exchanged i (i + r) l))
+
+-- the keystream of a key, with a nonce of zeros
+abbrev pub streamOf : List ℕ → ℕ → ℕ
+streamOf key = keystream key (replicate 12 0)
+
+-- the first n entries of the shuffle of len
+unfoldable pub shuffled : List ℕ → ℕ → ℕ → List ℕ
+shuffled key len n = made (streamOf key) n 0 0 (tab (λ k. k) len)
+
+-- what is given: count cut to len and to the room, and nothing of a list that is longer than 4,096
+abbrev pub longest : ℕ
+longest = 4096
+
+unfoldable pub shuffleOf : List ℕ → ℕ → ℕ → ℕ → List ℕ
+shuffleOf key len count room = cond (leb len longest) (shuffled key len (min (min count len) room)) []
+
+-- the places lent: the entries, and 0 in the places beyond the last
+unfoldable pub lentFor : ℕ → List ℕ → List ℕ
+lentFor room entries = tab (λ k. getD entries k 0) room
