@@ -1,7 +1,9 @@
 //! Times each stage of the port, and writing and reading as a whole, beside the Rust that they replace. The two sides
-//! take turns on the same input, and the run stops where their outputs differ.
+//! take turns on the same input, and the run stops where their outputs differ. Peak memory is taken of processes that
+//! write or read once.
 
 use std::hint::black_box;
+use std::process::Command;
 use std::time::Instant;
 
 use judge::picture::{Kind, Picture, samples};
@@ -300,65 +302,142 @@ fn samples_of(image: DynamicImage) -> Vec<u8> {
     }
 }
 
+/// The places of the work area that writing needs, and those that reading does.
+fn work_to_write(side: usize) -> usize {
+    131_072 + 2 * side * side
+}
+
+fn work_to_read(side: usize) -> usize {
+    65_536 + side * side
+}
+
+fn write_ours(samples: &mut [u8], side: usize, channels: usize, work: &mut [f32]) {
+    let (to, length, floats) = (samples.as_mut_ptr(), samples.len(), work.len());
+    let (text, room, mut given) = (TEXT.as_ptr(), work.as_mut_ptr(), 0);
+    let answer = unsafe {
+        vaikelomu_write(
+            to,
+            length,
+            side,
+            side,
+            channels,
+            text,
+            TEXT.len(),
+            0,
+            &[0; 32],
+            &[0; 4],
+            room,
+            floats,
+            &mut given,
+        )
+    };
+    assert_eq!(answer, 0);
+}
+
+fn read_ours(samples: &[u8], side: usize, channels: usize, work: &mut [f32]) -> String {
+    let (from, length, floats) = (samples.as_ptr(), samples.len(), work.len());
+    let (room, mut text, mut count, mut given) = (work.as_mut_ptr(), [0; 32], 0, 0);
+    let answer = unsafe {
+        vaikelomu_read(
+            from, length, side, side, channels, 0, &[0; 32], room, floats, &mut text, &mut count,
+            &mut given,
+        )
+    };
+    assert_eq!(answer, 0);
+    String::from_utf8_lossy(&text[..count]).into_owned()
+}
+
 /// A text written into a square picture, again in each run, and read from the result. The Rust is handed its container and
 /// hands it back; the work area is lent as large as each call needs.
 fn marks(runs: usize, side: usize, channels: usize) {
     let picture = Picture { width: side, height: side, channels };
     let mut ours = samples(Kind::Grain, picture, 9);
     let mut rust = Some(container(side, channels, ours.clone()));
-    let mut work = vec![0.0f32; 131_072 + 2 * side * side];
+    let mut work = vec![0.0f32; work_to_write(side)];
     let length = ours.len();
     row_of_bytes(
         &format!("write, {side} x {side} x {channels}"),
         length,
         runs,
-        || {
-            let (to, text, room, floats) =
-                (ours.as_mut_ptr(), TEXT.as_ptr(), work.as_mut_ptr(), work.len());
-            let (key, salt, mut given) = ([0; 32], [0; 4], 0);
-            let answer = unsafe {
-                vaikelomu_write(
-                    to,
-                    length,
-                    side,
-                    side,
-                    channels,
-                    text,
-                    TEXT.len(),
-                    0,
-                    &key,
-                    &salt,
-                    room,
-                    floats,
-                    &mut given,
-                )
-            };
-            assert_eq!(answer, 0);
-        },
+        || write_ours(&mut ours, side, channels, &mut work),
         || rust = Some(embed_resilient(rust.take().expect("one"), TEXT).expect("it is taken")),
     );
     let image = rust.expect("one");
-    let (mut mine, mut theirs) = (([0; 32], 0), String::new());
+    let (mut mine, mut theirs) = (String::new(), String::new());
     row_of_bytes(
         &format!("read, {side} x {side} x {channels}"),
         length,
         runs,
-        || {
-            let (from, room, floats) = (ours.as_ptr(), work.as_mut_ptr(), 65_536 + side * side);
-            let (text, length) = (&mut mine.0, &mut mine.1);
-            let (count, key, mut given) = (ours.len(), [0; 32], 0);
-            unsafe {
-                vaikelomu_read(
-                    from, count, side, side, channels, 0, &key, room, floats, text, length,
-                    &mut given,
-                )
-            };
-        },
+        || mine = read_ours(&ours, side, channels, &mut work[..work_to_read(side)]),
         || theirs = extract_resilient(&image).expect("it is there"),
     );
     assert!(ours == samples_of(image), "write, {side} x {side} x {channels}");
-    assert_eq!(&mine.0[..mine.1], theirs.as_bytes());
+    assert_eq!(mine, TEXT);
     assert_eq!(theirs, TEXT);
+}
+
+/// The most memory that this process has held since `forget_peak`, in MiB, as Linux counts it.
+fn peak() -> usize {
+    let status = std::fs::read_to_string("/proc/self/status").expect("Linux");
+    let line = status.lines().find(|line| line.starts_with("VmHWM:")).expect("a peak");
+    line.split_whitespace().nth(1).expect("a number").parse::<usize>().expect("KiB") / 1_024
+}
+
+fn forget_peak() {
+    std::fs::write("/proc/self/clear_refs", "5").expect("Linux");
+}
+
+/// Writes into or reads from a picture once and prints the peak; the picture stands ready before.
+fn once(who: &str, call: &str, side: usize, channels: usize) {
+    let picture = Picture { width: side, height: side, channels };
+    let mut pixels = samples(Kind::Grain, picture, 9);
+    if call == "read" {
+        write_ours(&mut pixels, side, channels, &mut vec![0.0; work_to_write(side)]);
+    }
+    match (who, call) {
+        ("ours", "write") => {
+            forget_peak();
+            write_ours(&mut pixels, side, channels, &mut vec![0.0; work_to_write(side)]);
+        }
+        ("ours", _) => {
+            forget_peak();
+            read_ours(&pixels, side, channels, &mut vec![0.0; work_to_read(side)]);
+        }
+        (_, "write") => {
+            let image = container(side, channels, pixels);
+            forget_peak();
+            black_box(embed_resilient(image, TEXT).expect("it is taken"));
+        }
+        _ => {
+            let image = container(side, channels, pixels);
+            forget_peak();
+            black_box(extract_resilient(&image).expect("it is there"));
+        }
+    }
+    println!("{}", peak());
+}
+
+/// The peak of another process of this program, which calls `once`.
+fn peak_of(who: &str, call: &str, side: usize, channels: usize) -> usize {
+    let program = std::env::current_exe().expect("this program");
+    let words = ["once", who, call, &side.to_string(), &channels.to_string()];
+    let said = Command::new(program).args(words).output().expect("it runs");
+    let said = String::from_utf8(said.stdout).expect("a number");
+    said.trim().parse().expect("MiB")
+}
+
+fn memory_rows() {
+    println!("{:<40} {:>10} {:>10} {:>8}", "peak memory", "ours MiB", "Rust MiB", "ratio");
+    for channels in [3, 4] {
+        for call in ["write", "read"] {
+            for side in [512, 2_048, 4_096, 8_192] {
+                let name = format!("{call}, {side} x {side} x {channels}");
+                let ours = peak_of("ours", call, side, channels);
+                let rust = peak_of("Rust", call, side, channels);
+                println!("{name:<40} {ours:>10} {rust:>10} {:>8.2}", ours as f64 / rust as f64);
+            }
+        }
+    }
 }
 
 /// The damaged block votes of records; the Rust is put together from its parts, since it has no function for it.
@@ -426,8 +505,17 @@ fn mark_rows(runs: usize) {
 
 fn main() {
     let words: Vec<String> = std::env::args().skip(1).collect();
+    if let [first, who, call, side, channels] = words.as_slice()
+        && first == "once"
+    {
+        let number = |word: &String| word.parse().expect("a number");
+        return once(who, call, number(side), number(channels));
+    }
     let runs = words.first().map_or(15, |runs| runs.parse().expect("a number of runs"));
     let part = words.get(1).map_or("all", String::as_str);
+    if part == "memory" {
+        return memory_rows();
+    }
     print!("{:<40} {:>10} {:>10} {:>8}", "stage", "ours ms", "Rust ms", "ratio");
     println!(" {:>10} {:>10}", "ours MB/s", "Rust MB/s");
     if part != "marks" {
@@ -435,5 +523,8 @@ fn main() {
     }
     if part != "stages" {
         mark_rows(runs);
+    }
+    if part == "all" {
+        memory_rows();
     }
 }

@@ -22,9 +22,9 @@ use Rattle.float.specs.Bounds.{Within, Holds, holds-whole, within-more, within-
 use Rattle.float.specs.Shifted.{Room, holds-shifted, holds-power, room-shifted}
 use Rattle.float.specs.Calls.{roundAway}
 use Rattle.float.specs.Vote.{term, meanOfFour, term-within, mean-within}
-use Rattle.block.specs.Grid.{cell, cell-grid}
-use Rattle.block.specs.Matrix.{matrix, entry, turnedEntry}
-use Rattle.block.specs.Transform.{sumOf, throughRows, throughColumns, forwardOf, inverseOf}
+use Rattle.transform.specs.Grid.{cell, cell-grid}
+use Rattle.transform.specs.Matrix.{matrix, entry, turnedEntry}
+use Rattle.transform.specs.Transform.{sumOf, throughRows, throughColumns, forwardOf, inverseOf}
 use Rattle.block.specs.Plane.{lineAt, loadOf, line-fits}
 use Rattle.block.specs.Mark.{coefficients, step, halfOf, markedOf, markedBlock}
 use Rattle.block.specs.Soft.{termOf, voteOf}

@@ -1,8 +1,3 @@
-pub mod Grid
-pub mod Matrix
-pub mod Transform
-pub mod Product
-pub mod Columns
 pub mod Mark
 pub mod Soft
 pub mod Plane

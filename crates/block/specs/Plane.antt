@@ -10,8 +10,8 @@ use lib.ListN.{length, getD}
 use lib.Ieee.{Float, nan}
 use Rattle.seq.specs.Tab.{length-tab, getD-tab}
 use Rattle.seq.specs.Lines.{pasted, length-pasted, pasted-at, pasted-other}
-use Rattle.block.specs.Grid.{grid, grid-same, cell, lineOf}
-use Rattle.block.specs.Columns.{columns-all}
+use Rattle.transform.specs.Grid.{grid, grid-same, cell, lineOf}
+use Rattle.transform.specs.Columns.{columns-all}
 
 -- the place of line r of block b
 abbrev pub lineAt : ℕ → ℕ → ℕ

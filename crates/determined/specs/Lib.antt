@@ -10,6 +10,7 @@ pub mod Shuffle
 pub mod Layout
 pub mod Dither
 pub mod Convolution
+pub mod Transform
 pub mod Block
 pub mod Marking
 pub mod Window

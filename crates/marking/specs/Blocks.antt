@@ -12,7 +12,7 @@ use lib.Seq.{ext-getD}
 use lib.Ieee.{Float, nan}
 use Rattle.seq.specs.Tab.{tab, tab-same, length-tab, getD-tab, prefix-more}
 use Rattle.dither.specs.Dither.{ditherOf}
-use Rattle.block.specs.Grid.{cell, cell-grid, length-grid}
+use Rattle.transform.specs.Grid.{cell, cell-grid, length-grid}
 use Rattle.block.specs.Plane.{lineAt, loadOf, storedOf, length-stored, load-stored, load-other}
 use Rattle.marking.specs.Marking.{ditherFour, blockChange, blockVote, planeOfBlocks, changeOf}
 

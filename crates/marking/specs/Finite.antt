@@ -12,8 +12,8 @@ use Rattle.float.specs.Calls.{inUnit}
 use Rattle.float.specs.Bounds.{Within, value-within}
 use Rattle.float.specs.Unit.{within-unit}
 use Rattle.dither.specs.Dither.{ditherOf, dither-exact}
-use Rattle.block.specs.Grid.{cell, cell-grid}
-use Rattle.block.specs.Transform.{forwardOf, inverseOf}
+use Rattle.transform.specs.Grid.{cell, cell-grid}
+use Rattle.transform.specs.Transform.{forwardOf, inverseOf}
 use Rattle.block.specs.Mark.{markedBlock}
 use Rattle.block.specs.Plane.{loadOf}
 use Rattle.block.specs.Finite.{Dither, load-within, plane-vote-within, marked-plane-within}

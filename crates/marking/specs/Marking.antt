@@ -5,8 +5,8 @@ use lib.ListN.{getD}
 use lib.Ieee.{Float, binary32, sub}
 use Rattle.seq.specs.Tab.{tab}
 use Rattle.dither.specs.Dither.{ditherOf}
-use Rattle.block.specs.Grid.{grid, cell}
-use Rattle.block.specs.Transform.{forwardOf, inverseOf}
+use Rattle.transform.specs.Grid.{grid, cell}
+use Rattle.transform.specs.Transform.{forwardOf, inverseOf}
 use Rattle.block.specs.Mark.{markedBlock}
 use Rattle.block.specs.Soft.{voteOf}
 use Rattle.block.specs.Plane.{loadOf}

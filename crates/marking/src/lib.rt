@@ -2,19 +2,19 @@
 // and each block's vote on the bit that it carries. The promises are equations over the definitions in
 // specs/Marking.antt, for every value; specs/Finite.antt has the bounds for the plane of a picture.
 use block::block_vote;
-use block::forward;
-use block::inverse;
 use block::load_block;
 use block::mark_block;
 use block::store_block;
 use dither::dither;
+use transform::forward;
+use transform::inverse;
 ghost use mathlib.Core.Path.{_≡_};
 ghost use Prim.Native.Nat.{_+_, _*_, _<_};
 ghost use lib.ListN.{length, getD};
 ghost use lib.Ieee.{nan, binary32, sub};
 ghost use Rattle.seq.specs.Tab.{tab};
-ghost use Rattle.block.specs.Grid.{grid, cell};
-ghost use Rattle.block.specs.Matrix.{entry, turnedEntry};
+ghost use Rattle.transform.specs.Grid.{grid, cell};
+ghost use Rattle.transform.specs.Matrix.{entry, turnedEntry};
 ghost use Rattle.block.specs.Plane.{loadOf};
 ghost use Rattle.marking.specs.Marking.{blockChange, blockVote, changeOf, votesOf};
 ghost use Rattle.marking.specs.Blocks.{ditherGroup, changedFrom, FirstVotes};
@@ -88,8 +88,8 @@ pub fn embed_bits(plane: &mut [f32], bits: &[u8; 1024])
     requires { ⌜ length (now plane) ≡ 65536 ⌝ }
     ensures { λ _. ⌜ now (plane .exit) ≡ changeOf (now (bits .entry)) (now (plane .entry)) ⌝ }
 {
-    let matrix = block::dct_matrix();
-    let turned = block::dct_turned();
+    let matrix = transform::dct_matrix();
+    let turned = transform::dct_turned();
     for group in 0..GROUPS {
         let u = dither(group as u32);
         embed_four(plane, bits, group, &u, &matrix, &turned);
@@ -130,8 +130,8 @@ pub fn block_soft(plane: &[f32]) -> [f32; 1024]
     requires { ⌜ length (now plane) ≡ 65536 ⌝ }
     ensures { λ r. ⌜ r ≡ votesOf (now (plane .entry)) ⌝ }
 {
-    let matrix = block::dct_matrix();
-    let turned = block::dct_turned();
+    let matrix = transform::dct_matrix();
+    let turned = transform::dct_turned();
     let mut votes = [0.0f32; 1024];
     for group in 0..GROUPS {
         let u = dither(group as u32);

@@ -1,4 +1,4 @@
-// Replays the Rust's stored answers for crate `block`: blocks of 64 floats by their bits, four bytes each, the high
+// Replays the Rust's stored answers for crates `transform` and `block`: blocks of 64 floats by their bits, four bytes each, the high
 // one first, and what the Rust makes of them. Every NaN is written as one pattern. Prints for each list how many
 // were compared and how many differ.
 use lists::Field;
@@ -9,8 +9,8 @@ ghost use Prim.Native.Nat.{_≤_};
 ghost use mathlib.Core.Path.{_≡_};
 ghost use lib.ListN.{length};
 ghost use Rattle.lists.specs.Fields.{Within};
-ghost use Rattle.block.specs.Grid.{grid};
-ghost use Rattle.block.specs.Matrix.{entry, turnedEntry};
+ghost use Rattle.transform.specs.Grid.{grid};
+ghost use Rattle.transform.specs.Matrix.{entry, turnedEntry};
 
 enum Stage {
     Forward,
@@ -47,14 +47,14 @@ fn answer(stage: Stage, raw: &[u8], matrix: &[f32; 64], turned: &[f32; 64]) -> [
 {
     let mut values = block_of(raw);
     if let Stage::Inverse = stage {
-        block::inverse(&mut values, matrix, turned);
+        transform::inverse(&mut values, matrix, turned);
         return values;
     }
-    block::forward(&mut values, matrix, turned);
+    transform::forward(&mut values, matrix, turned);
     match stage {
         Stage::Mark => {
             block::mark_block(&mut values, dither_of(raw), raw[272]);
-            block::inverse(&mut values, matrix, turned);
+            transform::inverse(&mut values, matrix, turned);
             values
         }
         Stage::Vote => {
@@ -85,8 +85,8 @@ fn result_size(stage: Stage) -> usize {
 fn agrees(text: &[u8], stage: Stage, operand: Field, result: Field) -> bool
     requires { ⌜ Within (now text) operand × Within (now text) result ⌝ }
 {
-    let matrix = block::dct_matrix();
-    let turned = block::dct_turned();
+    let matrix = transform::dct_matrix();
+    let turned = transform::dct_turned();
     let mut raw = [0u8; 273];
     let mut expected = [0u8; 256];
     let one = lists::hex_bytes(text, operand, &mut raw);

@@ -2,7 +2,7 @@
 use mathlib.Core.List.{List}
 use Prim.Native.Nat.{ℕ, zero, suc}
 use lib.Ieee.{Float}
-use Rattle.block.specs.Transform.{forwardOf, inverseOf}
+use Rattle.transform.specs.Transform.{forwardOf, inverseOf}
 use Rattle.block.specs.Plane.{loadOf, storedOf}
 
 abbrev pub blockThereAndBack : List Float → ℕ → List Float

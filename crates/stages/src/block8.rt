@@ -1,9 +1,9 @@
-// Crate `block`. The matrices are made at each call, but once for all blocks of `vk_there_and_back`.
+// Crates `transform` and `block`. The matrices are made at each call, but once for all blocks of `vk_there_and_back`.
 ghost use mathlib.Core.Path.{_≡_};
 ghost use Prim.Native.Nat.{_%_, _<_};
-ghost use Rattle.block.specs.Grid.{grid};
-ghost use Rattle.block.specs.Matrix.{entry, turnedEntry};
-ghost use Rattle.block.specs.Transform.{forwardOf, inverseOf};
+ghost use Rattle.transform.specs.Grid.{grid};
+ghost use Rattle.transform.specs.Matrix.{entry, turnedEntry};
+ghost use Rattle.transform.specs.Transform.{forwardOf, inverseOf};
 ghost use Rattle.block.specs.Mark.{markedBlock};
 ghost use Rattle.block.specs.Soft.{voteOf};
 ghost use Rattle.block.specs.Plane.{loadOf, storedOf};
@@ -13,18 +13,18 @@ ghost use Rattle.stages.specs.Blocks.{blockThereAndBack, thereAndBack};
 pub extern "C" fn vk_forward(values: &mut [f32; 64])
     ensures { λ _. ⌜ now (values .exit) ≡ forwardOf (now (values .entry)) ⌝ }
 {
-    let matrix = block::dct_matrix();
-    let turned = block::dct_turned();
-    block::forward(values, &matrix, &turned);
+    let matrix = transform::dct_matrix();
+    let turned = transform::dct_turned();
+    transform::forward(values, &matrix, &turned);
 }
 
 #[no_mangle]
 pub extern "C" fn vk_inverse(values: &mut [f32; 64])
     ensures { λ _. ⌜ now (values .exit) ≡ inverseOf (now (values .entry)) ⌝ }
 {
-    let matrix = block::dct_matrix();
-    let turned = block::dct_turned();
-    block::inverse(values, &matrix, &turned);
+    let matrix = transform::dct_matrix();
+    let turned = transform::dct_turned();
+    transform::inverse(values, &matrix, &turned);
 }
 
 #[no_mangle]
@@ -60,8 +60,8 @@ fn block_there_and_back(plane: &mut [f32; 65536], b: usize, matrix: &[f32; 64], 
     ensures { λ _. ⌜ now (plane .exit) ≡ blockThereAndBack (now (plane .entry)) b ⌝ }
 {
     let mut values = block::load_block(plane, b);
-    block::forward(&mut values, matrix, turned);
-    block::inverse(&mut values, matrix, turned);
+    transform::forward(&mut values, matrix, turned);
+    transform::inverse(&mut values, matrix, turned);
     block::store_block(plane, b, &values);
 }
 
@@ -70,8 +70,8 @@ fn block_there_and_back(plane: &mut [f32; 65536], b: usize, matrix: &[f32; 64], 
 pub extern "C" fn vk_there_and_back(plane: &mut [f32; 65536])
     ensures { λ _. ⌜ now (plane .exit) ≡ thereAndBack 1024 (now (plane .entry)) ⌝ }
 {
-    let matrix = block::dct_matrix();
-    let turned = block::dct_turned();
+    let matrix = transform::dct_matrix();
+    let turned = transform::dct_turned();
     for b in 0..1024usize {
         block_there_and_back(plane, b, &matrix, &turned);
     }

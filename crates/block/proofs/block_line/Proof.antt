@@ -5,7 +5,7 @@ use Prim.Native.Nat.{_-_, _≤_}
 use native.Mathlib.Omega.{arith}
 use lib.ListN.{length, take}
 use Rattle.seq.specs.Tab.{tab, prefix-more, prefix-all}
-use Rattle.block.specs.Grid.{cell}
+use Rattle.transform.specs.Grid.{cell}
 use Rattle.block.proofs.block_line.Statement.{statement}
 use Rattle.block.proofs.block_line.Tie as tie
 

@@ -11,7 +11,7 @@ use lib.Seq.{paste, length-paste, take-all}
 use lib.Ieee.{Float, nan}
 use Rattle.seq.specs.Tab.{tab, length-tab}
 use Rattle.seq.specs.Lines.{lines, lines-more, part-tab}
-use Rattle.block.specs.Grid.{grid, lineOf}
+use Rattle.transform.specs.Grid.{grid, lineOf}
 use Rattle.block.specs.Plane.{lineAt, loadOf, line-fits}
 use Rattle.block.proofs.load_block.Statement.{statement}
 use Rattle.block.proofs.load_block.Tie as tie

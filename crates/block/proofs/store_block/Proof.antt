@@ -6,7 +6,7 @@ use native.Mathlib.Omega.{arith}
 use lib.ListN.{length}
 use Rattle.seq.specs.Tab.{length-tab}
 use Rattle.seq.specs.Lines.{pasted, pasted-none, pasted-more}
-use Rattle.block.specs.Grid.{cell, lineOf}
+use Rattle.transform.specs.Grid.{cell, lineOf}
 use Rattle.block.specs.Plane.{lineAt, storedOf, line-fits}
 use Rattle.block.proofs.store_block.Statement.{statement}
 use Rattle.block.proofs.store_block.Tie as tie

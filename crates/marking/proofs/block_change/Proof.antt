@@ -4,8 +4,8 @@ use mathlib.Core.Path.{_∙_, ap}
 use mathlib.Core.List.{List}
 use denote.Ref.{now}
 use lib.Ieee.{Float, binary32, sub}
-use Rattle.block.specs.Grid.{grid, cell}
-use Rattle.block.specs.Transform.{inverseOf}
+use Rattle.transform.specs.Grid.{grid, cell}
+use Rattle.transform.specs.Transform.{inverseOf}
 use Rattle.block.specs.Mark.{markedBlock}
 use Rattle.marking.specs.Marking.{blockChange}
 use Rattle.marking.proofs.block_change.Statement.{statement}

@@ -5,8 +5,8 @@ use Prim.Native.Nat.{_-_, _*_, _≤_}
 use native.Mathlib.Nat.{mul-add, mul-one}
 use native.Mathlib.Omega.{arith}
 use Rattle.seq.specs.Tab.{tab, prefix-all}
-use Rattle.block.specs.Grid.{grid}
-use Rattle.block.specs.Matrix.{entry, turnedEntry}
+use Rattle.transform.specs.Grid.{grid}
+use Rattle.transform.specs.Matrix.{entry, turnedEntry}
 use Rattle.marking.specs.Marking.{votesOf}
 use Rattle.marking.specs.Blocks.{FirstVotes}
 use Rattle.marking.proofs.block_soft.Statement.{statement}

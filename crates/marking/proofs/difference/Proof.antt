@@ -9,8 +9,8 @@ use denote.Ref.{now}
 use lib.ListN.{length, getD, take}
 use lib.Ieee.{Float, nan, binary32, sub}
 use Rattle.seq.specs.Tab.{tab, tab-same, prefix-more, prefix-all}
-use Rattle.block.specs.Grid.{grid, cell}
-use Rattle.block.specs.Columns.{table-grid}
+use Rattle.transform.specs.Grid.{grid, cell}
+use Rattle.transform.specs.Columns.{table-grid}
 use Rattle.marking.proofs.difference.Statement.{statement}
 use Rattle.marking.proofs.difference.Tie as tie
 

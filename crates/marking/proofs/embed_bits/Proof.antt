@@ -6,8 +6,8 @@ use native.Mathlib.Nat.{mul-add, mul-one}
 use native.Mathlib.Omega.{arith}
 use denote.Ref.{now}
 use lib.ListN.{length}
-use Rattle.block.specs.Grid.{grid}
-use Rattle.block.specs.Matrix.{entry, turnedEntry}
+use Rattle.transform.specs.Grid.{grid}
+use Rattle.transform.specs.Matrix.{entry, turnedEntry}
 use Rattle.marking.specs.Blocks.{changedFrom, changed-none, changed-on, changed-all}
 use Rattle.marking.proofs.embed_bits.Statement.{statement}
 use Rattle.marking.proofs.embed_bits.Tie as tie

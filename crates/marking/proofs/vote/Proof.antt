@@ -1,7 +1,7 @@
 -- What the three calls promise, one in the other. Assumes nothing.
 use borrow.Author.Needs.{needs}
 use mathlib.Core.Path.{_∙_, ap}
-use Rattle.block.specs.Transform.{forwardOf}
+use Rattle.transform.specs.Transform.{forwardOf}
 use Rattle.block.specs.Soft.{voteOf}
 use Rattle.marking.specs.Marking.{blockVote}
 use Rattle.marking.proofs.vote.Statement.{statement}

@@ -2,7 +2,7 @@
 use borrow.Author.Needs.{needs}
 use mathlib.Core.Path.{ap, _∙_}
 use denote.Ref.{now}
-use Rattle.block.specs.Transform.{forwardOf, inverseOf}
+use Rattle.transform.specs.Transform.{forwardOf, inverseOf}
 use Rattle.block.specs.Plane.{storedOf}
 use Rattle.stages.proofs.block8.block_there_and_back.Statement.{statement}
 use Rattle.stages.proofs.block8.block_there_and_back.Tie as tie

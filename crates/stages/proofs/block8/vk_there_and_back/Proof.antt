@@ -6,8 +6,8 @@ use Prim.Native.Nat.{_-_, _≤_}
 use native.Mathlib.Numerals.{add-one}
 use native.Mathlib.Omega.{arith}
 use lib.Ieee.{Float}
-use Rattle.block.specs.Grid.{grid}
-use Rattle.block.specs.Matrix.{entry, turnedEntry}
+use Rattle.transform.specs.Grid.{grid}
+use Rattle.transform.specs.Matrix.{entry, turnedEntry}
 use Rattle.stages.specs.Blocks.{blockThereAndBack, thereAndBack}
 use Rattle.stages.proofs.block8.vk_there_and_back.Statement.{statement}
 use Rattle.stages.proofs.block8.vk_there_and_back.Tie as tie

@@ -3,10 +3,10 @@ use borrow.Author.Needs.{needs}
 use mathlib.Core.Path.{refl}
 use Prim.Native.Nat.{_-_, _≤_}
 use native.Mathlib.Omega.{arith}
-use Rattle.block.specs.Columns.{FirstColumns, columns-more, columns-all}
-use Rattle.block.specs.Product.{dotOf}
-use Rattle.block.proofs.product.Statement.{statement}
-use Rattle.block.proofs.product.Tie as tie
+use Rattle.transform.specs.Columns.{FirstColumns, columns-more, columns-all}
+use Rattle.transform.specs.Product.{dotOf}
+use Rattle.transform.proofs.product.Statement.{statement}
+use Rattle.transform.proofs.product.Tie as tie
 
 abbrev Inv-loop : tie.InvT-loop
 Inv-loop a b p₀ c₀ p c = (c ≤ 8) × FirstColumns (dotOf a b) c p

@@ -2,11 +2,11 @@
 use borrow.Author.Needs.{needs}
 use mathlib.Core.Path.{_∙_, ap}
 use denote.Ref.{now}
-use Rattle.block.specs.Matrix.{turnedEntry}
-use Rattle.block.specs.Transform.{throughRows}
-use Rattle.block.specs.Product.{rows-by, columns-by}
-use Rattle.block.proofs.inverse.Statement.{statement}
-use Rattle.block.proofs.inverse.Tie as tie
+use Rattle.transform.specs.Matrix.{turnedEntry}
+use Rattle.transform.specs.Transform.{throughRows}
+use Rattle.transform.specs.Product.{rows-by, columns-by}
+use Rattle.transform.proofs.inverse.Statement.{statement}
+use Rattle.transform.proofs.inverse.Tie as tie
 
 product-requires : tie.Need-product-requires
 product-requires c κs = search needs

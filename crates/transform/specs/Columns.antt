@@ -11,7 +11,7 @@ use lib.ListN.{length, getD, set, length-set}
 use lib.Seq.{getD-set-same, getD-set-other, ext-getD}
 use lib.Ieee.{Float, nan}
 use Rattle.seq.specs.Tab.{tab, length-tab, getD-tab}
-use Rattle.block.specs.Grid.{grid, cell, cell-grid, length-grid}
+use Rattle.transform.specs.Grid.{grid, cell, cell-grid, length-grid}
 
 -- p with f 0, f 1, .. f (n - 1) down its column c
 unfoldable pub column : (ℕ → Float) → ℕ → ℕ → List Float → List Float

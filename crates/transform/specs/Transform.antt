@@ -4,8 +4,8 @@ use Prim.Native.Nat.{ℕ}
 use lib.Ieee.{Float, binary32, add, mul}
 use Rattle.seq.specs.Sum.{sumTo}
 use Rattle.float.specs.Base.{zero-}
-use Rattle.block.specs.Grid.{grid, cell}
-use Rattle.block.specs.Matrix.{entry, turnedEntry}
+use Rattle.transform.specs.Grid.{grid, cell}
+use Rattle.transform.specs.Matrix.{entry, turnedEntry}
 
 -- (..((-0 + f 0) + f 1) + ..) + f 7
 abbrev pub sumOf : (ℕ → Float) → Float

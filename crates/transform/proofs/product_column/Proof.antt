@@ -3,10 +3,10 @@ use borrow.Author.Needs.{needs}
 use mathlib.Core.Path.{_≡_}
 use Prim.Native.Nat.{_-_, _≤_}
 use native.Mathlib.Omega.{arith}
-use Rattle.block.specs.Columns.{column, column-none, column-more}
-use Rattle.block.specs.Product.{dotOf}
-use Rattle.block.proofs.product_column.Statement.{statement}
-use Rattle.block.proofs.product_column.Tie as tie
+use Rattle.transform.specs.Columns.{column, column-none, column-more}
+use Rattle.transform.specs.Product.{dotOf}
+use Rattle.transform.proofs.product_column.Statement.{statement}
+use Rattle.transform.proofs.product_column.Tie as tie
 
 abbrev Inv-loop : tie.InvT-loop
 Inv-loop a b c p₀ r₀ p r = (r ≤ 8) × (p ≡ column (λ i. dotOf a b i c) c r p₀)

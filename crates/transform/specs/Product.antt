@@ -6,8 +6,8 @@ use lib.Ieee.{Float, binary32, add, mul}
 use Rattle.seq.specs.Sum.{sum-same}
 use Rattle.float.specs.Base.{zero-}
 use Rattle.float.specs.Commute.{mul-commutes}
-use Rattle.block.specs.Grid.{grid, cell, cell-grid, grid-same}
-use Rattle.block.specs.Transform.{sumOf, throughRows, throughColumns}
+use Rattle.transform.specs.Grid.{grid, cell, cell-grid, grid-same}
+use Rattle.transform.specs.Transform.{sumOf, throughRows, throughColumns}
 
 -- line r of a times column c of b
 unfoldable pub dotOf : List Float → List Float → ℕ → ℕ → Float

@@ -6,10 +6,10 @@ use native.Mathlib.Omega.{arith}
 use lib.Ieee.{binary32, add, mul, neg, ofBits}
 use Rattle.seq.specs.Sum.{sumTo, sum-none, sum-more}
 use Rattle.float.specs.Base.{zero-}
-use Rattle.block.specs.Grid.{cell}
-use Rattle.block.specs.Product.{dotOf}
-use Rattle.block.proofs.dot.Statement.{statement}
-use Rattle.block.proofs.dot.Tie as tie
+use Rattle.transform.specs.Grid.{cell}
+use Rattle.transform.specs.Product.{dotOf}
+use Rattle.transform.proofs.dot.Statement.{statement}
+use Rattle.transform.proofs.dot.Tie as tie
 
 abbrev Inv-loop : tie.InvT-loop
 Inv-loop a b r c t₀ j₀ t j = (j ≤ 8) × (t ≡ sumTo (add binary32) zero- j (λ i. mul binary32 (cell a r i) (cell b i c)))

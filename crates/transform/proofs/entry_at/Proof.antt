@@ -4,8 +4,8 @@ use mathlib.Core.List.{List, []}
 use lib.ListN.{getD}
 use lib.Ieee.{Float, nan}
 use borrow.Author.Needs.{needs}
-use Rattle.block.proofs.entry_at.Statement.{statement}
-use Rattle.block.proofs.entry_at.Tie as tie
+use Rattle.transform.proofs.entry_at.Statement.{statement}
+use Rattle.transform.proofs.entry_at.Tie as tie
 
 mul-result : tie.Need-mul-result
 mul-result c = search needs

@@ -6,10 +6,10 @@ use native.Mathlib.Omega.{arith}
 use lib.ListN.{length, take}
 use lib.Ieee.{ofBits}
 use Rattle.seq.specs.Tab.{tab, prefix-more, prefix-all}
-use Rattle.block.specs.Matrix.{matrix, entry}
-use Rattle.block.specs.Columns.{table-grid}
-use Rattle.block.proofs.dct_matrix.Statement.{statement}
-use Rattle.block.proofs.dct_matrix.Tie as tie
+use Rattle.transform.specs.Matrix.{matrix, entry}
+use Rattle.transform.specs.Columns.{table-grid}
+use Rattle.transform.proofs.dct_matrix.Statement.{statement}
+use Rattle.transform.proofs.dct_matrix.Tie as tie
 
 abbrev Inv-loop : tie.InvT-loop
 Inv-loop table m₀ p₀ m p = (table ≡ matrix) × (p ≤ 64) × (length m ≡ 64) × (take p m ≡ tab (λ q. entry (q / 8) (q % 8)) p)

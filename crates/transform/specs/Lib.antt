@@ -1,0 +1,5 @@
+pub mod Grid
+pub mod Matrix
+pub mod Transform
+pub mod Product
+pub mod Columns
