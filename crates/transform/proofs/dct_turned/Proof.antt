@@ -6,26 +6,37 @@ use native.Mathlib.Omega.{arith}
 use lib.ListN.{length, take}
 use lib.Ieee.{ofBits}
 use Rattle.seq.specs.Tab.{tab, prefix-more, prefix-all}
-use Rattle.transform.specs.Matrix.{matrix, turnedEntry}
+use Rattle.seq.specs.Lines.{lines}
+use Rattle.transform.specs.Grid.{grid, cell-grid}
+use Rattle.transform.specs.Matrix.{entry, turnedEntry}
 use Rattle.transform.specs.Columns.{table-grid}
 use Rattle.transform.proofs.dct_turned.Statement.{statement}
 use Rattle.transform.proofs.dct_turned.Tie as tie
 
 abbrev Inv-loop : tie.InvT-loop
-Inv-loop table m₀ p₀ m p = (table ≡ matrix) × (p ≤ 64) × (length m ≡ 64) × (take p m ≡ tab (λ q. turnedEntry (q / 8) (q % 8)) p)
+Inv-loop matrix m₀ p₀ m p = (matrix ≡ grid entry) × (p ≤ 64) × (length m ≡ 64) × (take p m ≡ tab (λ q. turnedEntry (q / 8) (q % 8)) p)
 
 abbrev μ-loop : tie.MeasureT-loop
-μ-loop table m₀ p₀ m p = 64 - p
+μ-loop matrix m₀ p₀ m p = 64 - p
 
 loop-holds : tie.Need-loop-holds Inv-loop μ-loop
-unfolding tab ofBits
+unfolding grid lines tab ofBits
 loop-holds c = (refl, search needs, refl, refl)
-
-entry-at-requires : tie.Need-entry-at-requires Inv-loop μ-loop
-entry-at-requires c κs = search needs
 
 mul-m : tie.Need-mul-m Inv-loop μ-loop
 mul-m c = search needs
+
+add-m : tie.Need-add-m Inv-loop μ-loop
+add-m c = search needs
+
+mul-m-2 : tie.Need-mul-m-2 Inv-loop μ-loop
+mul-m-2 c = search needs
+
+array-read-m : tie.Need-array-read-m Inv-loop μ-loop
+array-read-m c = search needs
+
+mul-m-3 : tie.Need-mul-m-3 Inv-loop μ-loop
+mul-m-3 c = search needs
 
 array-write-m : tie.Need-array-write-m Inv-loop μ-loop
 array-write-m c = search needs
@@ -37,7 +48,9 @@ loop-less : tie.Need-loop-less Inv-loop μ-loop
 loop-less c = search needs
 
 loop-again : tie.Need-loop-again Inv-loop μ-loop
-loop-again c = (search needs, search needs, search needs, prefix-more _ _ _ _ (omega arith) (c .entry-at .ensures) (c .before .before .before .loop .inv .3))
+loop-again c =
+    let loop = c .before .loop in
+    (search needs, search needs, search needs, prefix-more _ _ _ _ (omega arith) (rw (loop .inv .0) (cell-grid entry (loop .p % 8) (loop .p / 8) (omega arith) (omega arith))) (loop .inv .3))
 
 returns : tie.Need-returns Inv-loop μ-loop
 returns c =
@@ -51,8 +64,11 @@ dct-turned-spec =
     Inv-loop
     μ-loop
     loop-holds
-    entry-at-requires
     mul-m
+    add-m
+    mul-m-2
+    array-read-m
+    mul-m-3
     array-write-m
     add-p
     loop-less
