@@ -50,9 +50,9 @@ fn minus_infinity() -> f32
 }
 
 // The state in which the path ends, and its metric.
-pub struct Ended {
-    pub state: usize,
-    pub metric: f32,
+struct Ended {
+    state: usize,
+    metric: f32,
 }
 
 // All steps: for each, which states were reached from their odd predecessor; and the end of the path.
@@ -83,9 +83,9 @@ fn end_of(metric: &[f32; 64]) -> Ended
 }
 
 // One step: the next metrics, and a bit for each state that says whether its odd predecessor won.
-pub struct Stepped {
-    pub metric: [f32; 64],
-    pub odd: u64,
+struct Stepped {
+    metric: [f32; 64],
+    odd: u64,
 }
 
 fn advance(m: &[f32; 64], s0: f32, s1: f32) -> Stepped
@@ -107,9 +107,9 @@ fn advance(m: &[f32; 64], s0: f32, s1: f32) -> Stepped
 }
 
 // A state's winner: its metric, and 1 where the odd predecessor won.
-pub struct Winner {
-    pub metric: f32,
-    pub odd: u8,
+struct Winner {
+    metric: f32,
+    odd: u8,
 }
 
 // State k is reached from states `even` and `even + 1`, whose registers give complementary outputs.
