@@ -15,6 +15,8 @@ pub mod Block
 pub mod Marking
 pub mod Window
 pub mod Resample
+pub mod Downsample
+pub mod Upsample
 pub mod Picture
 pub mod Resilient
 pub mod Face

@@ -1,4 +1,4 @@
-// Replays the Rust's stored answers for the crates `window` and `resample`: windows, the weights of source
+// Replays the Rust's stored answers for the crates `window`, `resample`, `downsample` and `upsample`: windows, the weights of source
 // numbers, the luma of rows, parts of the planes of pictures, and parts of pictures with a change put onto them.
 // A case is two strings of bytes, the operand and the result, in which a number has its high byte first; floats
 // stand by their bits, and whole numbers that have a sign as f64. Of a picture's samples a pattern is stored,
@@ -85,7 +85,7 @@ fn luma_room() -> [f32; 64]
 fn made_luma(row: &[u8], channels: usize, out: &mut [f32], expected: &[u8]) -> bool
     requires { ⌜ (3 ≤ channels) × (channels ≤ 4) × (length (now row) ≡ length (now out) * channels) × (length (now out) ≤ 64) × (length (now expected) ≡ 256) ⌝ }
 {
-    resample::down::luma(row, channels, out);
+    resample::luma(row, channels, out);
     same(out, expected)
 }
 
@@ -144,7 +144,7 @@ fn full_plane(
     requires { ⌜ (0 < width) × (width ≤ 8192) × (0 < height) × (height ≤ 8192) × (3 ≤ channels) × (channels ≤ 4) × (length (now samples) ≡ width * channels * height) × (length (now plane) ≡ 65536) × (0 < length (now pattern)) ⌝ }
 {
     fill_samples(pattern, samples);
-    resample::down::plane(samples, width, height, channels, plane);
+    downsample::plane(samples, width, height, channels, plane);
 }
 
 fn sized_plane(
@@ -243,7 +243,7 @@ fn full_change(
     requires { ⌜ (256 ≤ width) × (width ≤ 512) × (256 ≤ height) × (height ≤ 512) × (3 ≤ channels) × (channels ≤ 4) × (length (now samples) ≡ width * channels * height) × (length (now change) ≡ 65536) × (0 < length (now pattern)) × (place + 64 ≡ end) × (64 ≤ length (now expected)) ⌝ }
 {
     fill_samples(pattern, samples);
-    resample::up::change_samples(change, width, height, channels, samples);
+    upsample::change_samples(change, width, height, channels, samples);
     if samples.len() < end {
         return false;
     }

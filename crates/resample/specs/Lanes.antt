@@ -1,21 +1,23 @@
--- Four rows whose values stand side by side, value x of row l in place 4 x + l, and the luma of a pixel put together from products looked up. Assumes nothing.
+-- Four rows at once: their values side by side, value x of row l in place 4 x + l, or one row behind the other, and the luma of a pixel put together from products looked up. Assumes nothing.
 use mathlib.Core.Path.{_≡_, refl, sym, _∙_, ap, ap₂}
-use mathlib.Core.List.{List}
+use mathlib.Core.Logic.{inl, inr}
+use mathlib.Core.List.{List, [], _∷_, _++_}
 use mathlib.Core.Bool.{Bool, true, false, cond}
-use Prim.Native.Nat.{ℕ, zero, suc, _+_, _*_, _/_, _%_, _≤_, _<_}
+use Prim.Native.Nat.{ℕ, zero, suc, _+_, _-_, _*_, _/_, _%_, _≤_, _<_}
+use native.Mathlib.Nat.{eq-or-lt-of-le}
 use native.Mathlib.Omega.{arith}
-use lib.Dec.{T, ltb, ltb→lt}
+use lib.Dec.{T, ltb, ltb→lt, lt→ltb}
 use lib.IntN.{pos}
-use lib.ListN.{length, getD, set, take, drop, List·getD-append}
-use lib.Seq.{getD-take, getD-drop}
+use lib.ListN.{length, getD, set, drop, length-set, List·getD-append}
+use lib.Seq.{ext-getD, getD-take, getD-drop, getD-set-same, getD-set-other}
 use lib.Ieee.{Float, nan, binary32, ofBits, ofInt, add, mul}
+use lib.Ieee.Bits.{is-true}
 use Rattle.seq.specs.Tab.{tab, filled, length-tab, getD-tab, tab-same, filled-more}
-use Rattle.seq.specs.Part.{onPart}
+use Rattle.seq.specs.Lines.{lines, lines-same, length-lines, getD-lines}
 use Rattle.resample.specs.Resampled.{across}
 use Rattle.resample.specs.Samples.{value, rowOf, lumaAt, narrowRow}
 use Rattle.resample.specs.Tables.{across-same}
 use Rattle.resample.specs.Pixels.{pixel-fits}
-use Rattle.resample.specs.Kept.{Kept, kept-here, kept-new}
 
 -- ---- side by side
 
@@ -62,16 +64,67 @@ module _ {A : Type 0} where
   unfolding filled
   getD-filled f n k s z h = List·getD-append (tab f n) (drop n s) z k (omega (arith, length-tab f n)) ∙ getD-tab f n k z h
 
+-- ---- one row behind the other
+
+-- the first x values of each of four rows of 256
+abbrev pub Behind : {A : Type 0} → A → (ℕ → ℕ → A) → ℕ → List A → Type 0
+Behind z f x s = (l y : ℕ) → l < 4 → y < x → getD s (l * 256 + y) z ≡ f l y
+
+module _ {A : Type 0} (z : A) (f : ℕ → ℕ → A) where
+  -- the values x of all four put into their rows
+  pub behind-more : (x : ℕ) (s : List A) (t u v w : A) → x < 256 → length s ≡ 1024 → t ≡ f 0 x → u ≡ f 1 x → v ≡ f 2 x → w ≡ f 3 x → Behind z f x s
+      → Behind z f (x + 1) (set (set (set (set s x t) (x + 256) u) (x + 512) v) (x + 768) w)
+  behind-more x s t u v w X S T U Y W b l y L h =
+      elim (eq-or-lt-of-le h) [
+        | inl e ↦ (let i : y ≡ x = omega arith in rw i (here l L))
+        | inr k ↦ (let less : y < x = omega arith in others l y L less ∙ b l y L less)
+      ]
+    where
+      others : (l y : ℕ) → l < 4 → y < x → getD (set (set (set (set s x t) (x + 256) u) (x + 512) v) (x + 768) w) (l * 256 + y) z ≡ getD s (l * 256 + y) z
+      others l y L h =
+          getD-set-other (set (set (set s x t) (x + 256) u) (x + 512) v) (x + 768) (l * 256 + y) w z (λ q. absurd (omega arith))
+          ∙ (getD-set-other (set (set s x t) (x + 256) u) (x + 512) (l * 256 + y) v z (λ q. absurd (omega arith))
+          ∙ (getD-set-other (set s x t) (x + 256) (l * 256 + y) u z (λ q. absurd (omega arith)) ∙ getD-set-other s x (l * 256 + y) t z (λ q. absurd (omega arith))))
+
+      -- a row before those that are written behind it
+      here : (l : ℕ) → l < 4 → getD (set (set (set (set s x t) (x + 256) u) (x + 512) v) (x + 768) w) (l * 256 + x) z ≡ f l x
+      here zero L =
+          let e : 0 * 256 + x ≡ x = omega arith in
+          rw e
+          (getD-set-other (set (set (set s x t) (x + 256) u) (x + 512) v) (x + 768) x w z (λ q. absurd (omega arith)) ∙ (getD-set-other (set (set s x t) (x + 256) u) (x + 512) x v z (λ q. absurd (omega arith)) ∙ (getD-set-other (set s x t) (x + 256) x u z (λ q. absurd (omega arith)) ∙ (getD-set-same s x t z (omega arith) ∙ T))))
+      here (suc zero) L =
+          let e : 1 * 256 + x ≡ x + 256 = omega arith in
+          rw e
+          (getD-set-other (set (set (set s x t) (x + 256) u) (x + 512) v) (x + 768) (x + 256) w z (λ q. absurd (omega arith)) ∙ (getD-set-other (set (set s x t) (x + 256) u) (x + 512) (x + 256) v z (λ q. absurd (omega arith)) ∙ (getD-set-same (set s x t) (x + 256) u z (rw length-set (omega arith)) ∙ U)))
+      here (suc (suc zero)) L =
+          let e : 2 * 256 + x ≡ x + 512 = omega arith in
+          rw e (getD-set-other (set (set (set s x t) (x + 256) u) (x + 512) v) (x + 768) (x + 512) w z (λ q. absurd (omega arith)) ∙ (getD-set-same (set (set s x t) (x + 256) u) (x + 512) v z (rw (length-set, length-set) (omega arith)) ∙ Y))
+      here (suc (suc (suc zero))) L =
+          let e : 3 * 256 + x ≡ x + 768 = omega arith in
+          rw e (getD-set-same (set (set (set s x t) (x + 256) u) (x + 512) v) (x + 768) w z (rw (length-set, length-set, length-set) (omega arith)) ∙ W)
+      here (suc (suc (suc (suc l)))) L = absurd (omega arith)
+
+  pub behind-all : (s : List A) → length s ≡ 1024 → Behind z f 256 s → s ≡ lines (λ l. tab (f l) 256) 4
+  behind-all s S b =
+      let long : length (lines (λ l. tab (f l) 256) 4) ≡ 4 * 256 = length-lines 256 (λ l. tab (f l) 256) (λ l. length-tab (f l) 256) 4 in
+      ext-getD z s (lines (λ l. tab (f l) 256) 4) (omega arith) (λ i I. same i (omega arith))
+    where
+      same : (i : ℕ) → i < 1024 → getD s i z ≡ getD (lines (λ l. tab (f l) 256) 4) i z
+      same i I =
+          let at : i / 256 * 256 + i % 256 ≡ i = omega arith in
+          let at-row : getD s (i / 256 * 256 + i % 256) z ≡ getD (lines (λ l. tab (f l) 256) 4) (i / 256 * 256 + i % 256) z =
+          b (i / 256) (i % 256) (omega arith) (omega arith) ∙ sym (getD-lines 256 (λ l. tab (f l) 256) (λ l. length-tab (f l) 256) 4 (i / 256) (i % 256) z (omega arith) (omega arith) ∙ getD-tab (f (i / 256)) 256 (i % 256) z (omega arith)) in
+          rw at at at-row
+
 -- ---- products looked up
 
--- what a sample of value v adds to the luma, with this weight
-unfoldable pub share : Float → ℕ → Float
-share weight v = mul binary32 weight (ofInt binary32 (pos v))
+-- 0.299, 0.587 and 0.114
+abbrev pub weights : List Float
+weights = ofBits binary32 0x3e99_1687 ∷ ofBits binary32 0x3f16_45a2 ∷ ofBits binary32 0x3de9_78d5 ∷ []
 
-pub record Shares (red green blue : List Float) : Type 0 where
-  pub of-red : red ≡ tab (share (ofBits binary32 0x3e99_1687)) 256
-  pub of-green : green ≡ tab (share (ofBits binary32 0x3f16_45a2)) 256
-  pub of-blue : blue ≡ tab (share (ofBits binary32 0x3de9_78d5)) 256
+-- what value k mod 256 of channel k / 256 adds to the luma
+unfoldable pub shareAt : ℕ → Float
+shareAt k = mul binary32 (getD weights (k / 256) nan) (ofInt binary32 (pos (k % 256)))
 
 -- the luma of the pixel whose samples start at place p
 unfoldable pub lumaFrom : List ℕ → ℕ → Float
@@ -79,26 +132,47 @@ lumaFrom samples p =
     add binary32 (add binary32 (mul binary32 (ofBits binary32 0x3e99_1687) (value samples p)) (mul binary32 (ofBits binary32 0x3f16_45a2) (value samples (p + 1))))
     (mul binary32 (ofBits binary32 0x3de9_78d5) (value samples (p + 2)))
 
-pub luma-looked : {red green blue : List Float} → Shares red green blue → (samples : List ℕ) (p : ℕ) → getD samples p 0 < 256 → getD samples (p + 1) 0 < 256 → getD samples (p + 2) 0 < 256
-    → add binary32 (add binary32 (getD red (getD samples p 0) nan) (getD green (getD samples (p + 1) 0) nan)) (getD blue (getD samples (p + 2) 0) nan) ≡ lumaFrom samples p
-unfolding lumaFrom share
-luma-looked t samples p r g b =
-    rw (t .of-red, t .of-green, t .of-blue, getD-tab (share (ofBits binary32 0x3e99_1687)) 256 (getD samples p 0) nan r, getD-tab (share (ofBits binary32 0x3f16_45a2)) 256 (getD samples (p + 1) 0) nan g, getD-tab (share (ofBits binary32 0x3de9_78d5)) 256 (getD samples (p + 2) 0) nan b)
-    refl
+looked : (c v : ℕ) → c < 3 → v < 256 → getD (tab shareAt 768) (c * 256 + v) nan ≡ mul binary32 (getD weights c nan) (ofInt binary32 (pos v))
+unfolding shareAt
+looked c v C B =
+    let d : (c * 256 + v) / 256 ≡ c = omega arith in
+    let m : (c * 256 + v) % 256 ≡ v = omega arith in
+    getD-tab shareAt 768 (c * 256 + v) nan (omega arith) ∙ ap₂ (λ (i j : ℕ). mul binary32 (getD weights i nan) (ofInt binary32 (pos j))) d m
+
+pub luma-looked : (shares : List Float) → shares ≡ tab shareAt 768 → (samples : List ℕ) (p : ℕ) → getD samples p 0 < 256 → getD samples (p + 1) 0 < 256 → getD samples (p + 2) 0 < 256
+    → add binary32 (add binary32 (getD shares (0 + getD samples p 0) nan) (getD shares (256 + getD samples (p + 1) 0) nan)) (getD shares (512 + getD samples (p + 2) 0) nan) ≡ lumaFrom samples p
+unfolding lumaFrom
+luma-looked shares e samples p r g b = rw (e, looked 0 (getD samples p 0) (omega arith) r, looked 1 (getD samples (p + 1) 0) (omega arith) g, looked 2 (getD samples (p + 2) 0) (omega arith) b) refl
 
 -- ---- four rows of samples
 
--- the row behind row i, or row i where it is the last
-unfoldable pub nextOf : ℕ → ℕ → ℕ
-nextOf i height = cond (ltb (i + 1) height) (i + 1) i
+-- row i, or the last of them where there are no more than i
+unfoldable pub cappedAt : ℕ → ℕ → ℕ
+cappedAt i height = cond (ltb i height) i (height - 1)
 
-pub next-below : (i height : ℕ) → i < height → nextOf i height < height
-unfolding nextOf
-next-below i height h = go (ltb (i + 1) height) (ltb→lt (i + 1) height)
+pub capped-below : (i height : ℕ) → 0 < height → cappedAt i height < height
+unfolding cappedAt
+capped-below i height h = go (ltb i height) (ltb→lt i height)
   where
-    go : (b : Bool) → (T b → i + 1 < height) → cond b (i + 1) i < height
+    go : (b : Bool) → (T b → i < height) → cond b i (height - 1) < height
     go true f = f tt
-    go false f = h
+    go false f = omega arith
+
+pub capped-own : (i height : ℕ) → i < height → cappedAt i height ≡ i
+unfolding cappedAt
+capped-own i height h = rw (is-true (ltb i height) (lt→ltb i height h)) refl
+
+-- luma x of row l, of the four from row 4 g on
+abbrev pub fourAt : ℕ → ℕ → ℕ → List ℕ → ℕ → ℕ → ℕ → Float
+fourAt width height channels samples g l = lumaAt channels (rowOf (width * channels) samples (cappedAt (4 * g + l) height))
+
+-- the line with the lumas of the four
+unfoldable pub lumaLine : ℕ → ℕ → ℕ → List ℕ → ℕ → List Float → List Float
+lumaLine width height channels samples g line = filled (beside (fourAt width height channels samples g)) (4 * width) line
+
+-- and the four as 256 values each
+unfoldable pub narrowFour : ℕ → ℕ → ℕ → List ℕ → ℕ → List Float
+narrowFour width height channels samples g = lines (λ l. narrowRow width channels samples (cappedAt (4 * g + l) height)) 4
 
 module _ (channels : ℕ) (samples : List ℕ) (n i x : ℕ) (fits : x * channels + 3 ≤ n) where
   sample-at : (q r : ℕ) → q < n → i * n + q ≡ r → getD (rowOf n samples i) q 0 ≡ getD samples r 0
@@ -112,49 +186,33 @@ module _ (channels : ℕ) (samples : List ℕ) (n i x : ℕ) (fits : x * channel
       rw (sample-at (x * channels) (i * n + x * channels) (omega arith) (omega arith), sample-at (x * channels + 1) (i * n + x * channels + 1) (omega arith) (omega arith), sample-at (x * channels + 2) (i * n + x * channels + 2) (omega arith) (omega arith))
       refl
 
-module _ (width channels : ℕ) (samples : List ℕ) (i j k m : ℕ) where
-  -- value x of row l, of the rows i, j, k and m
-  abbrev pub narrowLane : ℕ → ℕ → Float
-  narrowLane l x = across width 256 (lumaAt channels (rowOf (width * channels) samples (one i j k m l))) x
-
-  starts-at : (n l : ℕ) → one (i * n) (j * n) (k * n) (m * n) l ≡ one i j k m l * n
+module _ (width height channels : ℕ) (samples : List ℕ) (g : ℕ) (some : 0 < width) (three : 3 ≤ channels) where
+  starts-at : (n l : ℕ) → l < 4 → one (cappedAt (4 * g) height * n) (cappedAt (4 * g + 1) height * n) (cappedAt (4 * g + 2) height * n) (cappedAt (4 * g + 3) height * n) l ≡ cappedAt (4 * g + l) height * n
   unfolding one
-  starts-at n zero = refl
-  starts-at n (suc zero) = refl
-  starts-at n (suc (suc zero)) = refl
-  starts-at n (suc (suc (suc l))) = refl
+  starts-at n zero h = let e : 4 * g + 0 ≡ 4 * g = omega arith in rw e refl
+  starts-at n (suc zero) h = refl
+  starts-at n (suc (suc zero)) h = refl
+  starts-at n (suc (suc (suc zero))) h = refl
+  starts-at n (suc (suc (suc (suc l)))) h = absurd (omega arith)
 
-  module _ (line₀ line out : List Float) (some : 0 < width) (three : 3 ≤ channels)
-      (e : line ≡ filled (beside (λ l x. lumaFrom samples (one (i * (width * channels)) (j * (width * channels)) (k * (width * channels)) (m * (width * channels)) l + x * channels))) (4 * width) line₀)
-      (o : out ≡ tab (beside (λ l x. across width 256 (lane line l) x)) 1024) where
-    lane-luma : (l x : ℕ) → l < 4 → x < width → lane line l x ≡ lumaAt channels (rowOf (width * channels) samples (one i j k m l)) x
-    unfolding lane
-    lane-luma l x h b =
-        let n = width * channels in
-        let f : ℕ → ℕ → Float = λ l x. lumaFrom samples (one (i * n) (j * n) (k * n) (m * n) l + x * channels) in
-        ap (λ (xs : List Float). getD xs (4 * x + l) nan) e
-        ∙ (getD-filled (beside f) (4 * width) (4 * x + l) line₀ nan (omega arith)
-        ∙ (beside-at f l x h ∙ (ap (λ (a : ℕ). lumaFrom samples (a + x * channels)) (starts-at n l) ∙ luma-found channels samples n (one i j k m l) x (omega (arith, pixel-fits x channels width b)))))
+  -- the lumas found in the samples are those of the rows
+  pub line-found : (i j k m : ℕ) (line : List Float) → i ≡ cappedAt (4 * g) height → j ≡ cappedAt (4 * g + 1) height → k ≡ cappedAt (4 * g + 2) height → m ≡ cappedAt (4 * g + 3) height
+      → filled (beside (λ l x. lumaFrom samples (one (i * (width * channels)) (j * (width * channels)) (k * (width * channels)) (m * (width * channels)) l + x * channels))) (4 * width) line ≡ lumaLine width height channels samples g line
+  unfolding lumaLine filled beside
+  line-found i j k m line I J K M =
+      let n = width * channels in
+      ap (λ (xs : List Float). xs ++ drop (4 * width) line)
+      (tab-same _ _ (4 * width)
+      (λ q Q.
+      rw (I, J, K, M, starts-at n (q % 4) (omega arith))
+      (luma-found channels samples n (cappedAt (4 * g + q % 4) height) (q / 4) (omega (arith, pixel-fits (q / 4) channels width (omega arith))))))
 
-    pub narrowed-four : out ≡ tab (beside narrowLane) 1024
-    unfolding beside
-    narrowed-four =
-        o ∙ tab-same _ _ 1024
-        (λ q Q. across-same width 256 (lane line (q % 4)) (lumaAt channels (rowOf (width * channels) samples (one i j k m (q % 4)))) (q / 4) some (λ x b. lane-luma (q % 4) x (omega arith) b))
+  lane-luma : (line₀ line : List Float) → line ≡ lumaLine width height channels samples g line₀ → (l x : ℕ) → l < 4 → x < width → lane line l x ≡ fourAt width height channels samples g l x
+  unfolding lane lumaLine
+  lane-luma line₀ line e l x h b =
+      let f = fourAt width height channels samples g in
+      ap (λ (xs : List Float). getD xs (4 * x + l) nan) e ∙ (getD-filled (beside f) (4 * width) (4 * x + l) line₀ nan (omega arith) ∙ beside-at f l x h)
 
-  -- row l of the four
-  pub lane-row : (four : List Float) (l : ℕ) → l < 4 → four ≡ tab (beside narrowLane) 1024 → tab (lane four l) 256 ≡ narrowRow width channels samples (one i j k m l)
-  unfolding lane narrowRow
-  lane-row four l h e =
-      tab-same _ _ 256
-      (λ x b. ap (λ (xs : List Float). getD xs (4 * x + l) nan) e ∙ (getD-tab (beside narrowLane) 1024 (4 * x + l) nan (omega arith) ∙ beside-at narrowLane l x h))
-
--- ---- a row of the four put among the kept ones
-
-module _ (row : ℕ → List Float) (held held′ : List ℕ) (rows rows′ v : List Float) (i : ℕ) (K : Kept row 256 256 64 held rows) (long : length v ≡ 256) (E : v ≡ row i)
-    (R : rows′ ≡ onPart (i % 64 * 256) 256 (λ (x : List Float). v) rows) where
-  pub put-kept : held′ ≡ set held (i % 64) (i + 1) → Kept row 256 256 64 held′ rows′
-  put-kept H = rw (R, H) (kept-new row 256 256 64 held rows K (i % 64) i (omega arith) v long E)
-
-  pub put-here : take 256 (drop (i % 64 * 256) rows′) ≡ row i
-  put-here = rw R (kept-here row 256 256 64 held rows K (i % 64) i (omega arith) v long E)
+  pub narrowed-four : (line₀ line out : List Float) → line ≡ lumaLine width height channels samples g line₀ → out ≡ lines (λ l. tab (across width 256 (lane line l)) 256) 4 → out ≡ narrowFour width height channels samples g
+  unfolding narrowFour narrowRow
+  narrowed-four line₀ line out e o = o ∙ lines-same _ _ 4 (λ l h. tab-same _ _ 256 (λ x X. across-same width 256 (lane line l) (fourAt width height channels samples g l) x some (λ k K. lane-luma line₀ line e l k h K)))

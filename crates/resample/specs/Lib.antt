@@ -3,10 +3,6 @@ pub mod Samples
 pub mod Tables
 pub mod Kept
 pub mod Lanes
-pub mod Lengths
 pub mod Pixels
 pub mod Sums
-pub mod Changed
 pub mod Finite
-pub mod Alpha
-pub mod Sheet

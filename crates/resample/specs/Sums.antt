@@ -1,14 +1,24 @@
--- Rows summed with the weights of a window: with no row, with one more, and with all, which is a row of what is resampled. Assumes nothing.
-use mathlib.Core.Path.{_≡_, refl, sym, _∙_, ap}
+-- Rows summed with the weights of a window: with no row, with one more, and with all, which is a row of what is resampled; and the turns of a loop over the window's numbers. Assumes nothing.
+use mathlib.Core.Path.{_≡_, sym, _∙_, ap}
 use mathlib.Core.List.{List, [], _∷_, _++_}
-use Prim.Native.Nat.{ℕ, _*_}
+use Prim.Native.Nat.{ℕ, _≤_, _<_, _+_, _^_}
+use native.Mathlib.Omega.{arith}
+use lib.IntN.{ℤ, pos, _+ℤ_}
 use lib.ListN.{length, getD, replicate}
 use lib.Ieee.{Float, nan, binary32, add, mul}
 use Rattle.seq.specs.Tab.{tab, tab-same, getD-tab, length-tab, tab-replicate}
 use Rattle.float.specs.Base.{zero+}
-use Rattle.window.specs.Window.{Tap, taps}
+use mir.Syntax.{w64}
+use mir.Val.{toZ, ofZ}
+use mir.ValLaws.{toZ-ofZ}
+use Rattle.window.specs.declared.Window.{Window}
+use Rattle.window.specs.declared.Weight.{Weight}
+use Rattle.window.specs.declared.Weight.the-variants.{Of, Nothing}
+use Rattle.window.specs.Window.{Tap, taps, numbers, weightOf, clampOf, tapsTo}
+use Rattle.window.specs.Taps.{Small}
+use Rattle.window.specs.Signed.{small-fits, numbers-small}
+use Rattle.window.specs.Steps.{passed, taps-none, taps-one}
 use Rattle.resample.specs.Resampled.{total, across, resampled}
-use Rattle.resample.specs.Samples.{lumaAt, rowOf, narrowRow, planeRow, wideRow, changeRow}
 use Rattle.resample.specs.Tables.{noTap, addedAt, total-more, total-same}
 
 -- the first n values of the sum
@@ -35,12 +45,26 @@ pub sum-all : (w h n m : ℕ) (f : ℕ → ℕ → Float) (row : ℕ → List Fl
 unfolding sumRows resampled
 sum-all w h n m f row y e = tab-same _ _ n (λ x X. total-same zero+ (taps h m y) _ _ (λ i I. let k = getD (taps h m y) i noTap .from in ap (λ (r : List Float). getD r x nan) (e k) ∙ getD-tab (across w n (f k)) n x nan X))
 
--- ---- a row of the plane, and of a change
+-- ---- a loop over the numbers of a window
 
-pub plane-of : (width height channels : ℕ) (samples : List ℕ) (y : ℕ) → sumRows 256 (narrowRow width channels samples) (taps height 256 y) ≡ planeRow width height channels samples y
-unfolding planeRow narrowRow
-plane-of width height channels samples y = sum-all width height 256 256 (λ k. lumaAt channels (rowOf (width * channels) samples k)) (narrowRow width channels samples) y (λ k. refl)
+module _ (w : Window) (small : Small w) where
+  -- how many there are, of the window's own first and last
+  pub counted : (count : ℕ) → count ≡ numbers (toZ w64 (ofZ w64 (w .first))) (toZ w64 (ofZ w64 (w .last))) → count ≡ numbers (w .first) (w .last)
+  counted count e = rw (toZ-ofZ w64 (w .first) (small-fits (w .first) (small .0)), toZ-ofZ w64 (w .last) (small-fits (w .last) (small .1))) at e
 
-pub change-of : (width height : ℕ) (change : List Float) (y : ℕ) → sumRows width (wideRow width change) (taps 256 height y) ≡ changeRow width height change y
-unfolding changeRow wideRow
-change-of width height change y = sum-all 256 256 width height (λ k i. getD (rowOf 256 change k) i nan) (wideRow width change) y (λ k. refl)
+  -- turn k, of the number z that stands k behind the first, and its weight v
+  module _ (k : ℕ) (less : k < numbers (w .first) (w .last)) where
+    pub turn-small : k ≤ 2 ^ 32
+    turn-small = omega (arith, numbers-small (w .first) (w .last) (small .0) (small .1))
+
+    module _ (z : ℤ) (e : z ≡ toZ w64 (ofZ w64 (w .first)) +ℤ pos k) (v : Weight) (f : v ≡ weightOf w (toZ w64 (ofZ w64 z))) (src n : ℕ) (row : ℕ → List Float) (sum : List Float) (g : sum ≡ sumRows n row (tapsTo w src k)) where
+      number : toZ w64 (ofZ w64 z) ≡ w .first +ℤ pos k
+      number = passed z (w .first) k (small .0) turn-small e
+
+      pub turn-without : v ≡ Nothing → sum ≡ sumRows n row (tapsTo w src (k + 1))
+      turn-without h = g ∙ ap (sumRows n row) (taps-none w src k (sym (f ∙ ap (weightOf w) number) ∙ h))
+
+      pub turn-with : (q : Float) (i : ℕ) → v ≡ Of q → i ≡ clampOf src (toZ w64 (ofZ w64 z)) → tab (addedAt sum q (row i)) n ≡ sumRows n row (tapsTo w src (k + 1))
+      turn-with q i h c =
+          let t : Tap = record { from = clampOf src (w .first +ℤ pos k); weight = q } in
+          sum-more n row (tapsTo w src k) t sum (row i) g (ap row (c ∙ ap (clampOf src) number)) ∙ ap (sumRows n row) (sym (taps-one w src k q (sym (f ∙ ap (weightOf w) number) ∙ h)))

@@ -67,11 +67,16 @@ room-up dst h k = le-trans (start-most 256 dst dst) (taps-room-up dst h k)
 abbrev pub addedAt : List Float → Float → List Float → ℕ → Float
 addedAt sum w row x = add binary32 (getD sum x nan) (mul binary32 w (getD row x nan))
 
--- ---- one tap more
+-- ---- the sum over the taps of sample x that stand before place n, from -0
 
-pub total-none : (z : Float) (ts : List Tap) (f : ℕ → Float) → z ≡ total z (take 0 ts) f
+abbrev pub soFar : ℕ → ℕ → ℕ → ℕ → (ℕ → Float) → Float
+soFar src dst x n f = total zero- (take (n - start src dst x) (taps src dst x)) f
+
+pub none-yet : (src dst x a : ℕ) (f : ℕ → Float) → a ≡ start src dst x → zero- ≡ soFar src dst x a f
 unfolding total
-total-none z ts f = refl
+none-yet src dst x a f h = let e : a - start src dst x ≡ 0 = omega arith in rw e refl
+
+-- ---- one tap more
 
 pub total-append : (z : Float) (ts us : List Tap) (f : ℕ → Float) → total z (ts ++ us) f ≡ total (total z ts f) us f
 unfolding total
@@ -151,12 +156,13 @@ module _ {src dst : ℕ} {offsets index : List ℕ} {weight : List Float} (t : T
     pub from-inside : getD index n 0 < src
     from-inside = omega (arith, from-at, taps-from src dst x noTap (t .some) (n - start src dst x) own)
 
-    -- one tap more of sample x
-    pub tap-more : (z v : Float) (f : ℕ → Float) → v ≡ total z (take (n - start src dst x) (taps src dst x)) f → add binary32 v (mul binary32 (getD weight n nan) (f (getD index n 0))) ≡ total z (take (n + 1 - start src dst x) (taps src dst x)) f
-    tap-more z v f e =
+    -- one tap more of sample x, over any row
+    pub one-more : (v : Float) (f : ℕ → Float) → v ≡ soFar src dst x n f → add binary32 v (mul binary32 (getD weight n nan) (f (getD index n 0))) ≡ soFar src dst x (n + 1) f
+    one-more v f e =
         let i : n + 1 - start src dst x ≡ n - start src dst x + 1 = omega arith in
-        rw (i, with-at, from-at) (total-take z v (taps src dst x) (n - start src dst x) noTap f own e)
+        rw (i, with-at, from-at) (total-take zero- v (taps src dst x) (n - start src dst x) noTap f own e)
 
-  -- all taps of sample x
-  pub taps-all : (x : ℕ) → take (start src dst (x + 1) - start src dst x) (taps src dst x) ≡ taps src dst x
-  taps-all x = take-all (start src dst (x + 1) - start src dst x) (taps src dst x) (omega (arith, start-more src dst x))
+-- all taps of sample x
+pub all-there : (src dst x e : ℕ) (v : Float) (f : ℕ → Float) → e ≡ start src dst (x + 1) → v ≡ soFar src dst x e f → v ≡ across src dst f x
+unfolding across
+all-there src dst x e v f E h = h ∙ ap (λ (ts : List Tap). total zero- ts f) (take-all (e - start src dst x) (taps src dst x) (omega (arith, start-more src dst x)))

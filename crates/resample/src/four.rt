@@ -1,88 +1,93 @@
-// Four rows at once. Their values stand side by side, value x of row l in place 4 x + l, so that one instruction serves
-// four sums, each in its own order; and the luma of a pixel is put together from products that are made once.
+// Four rows at once. Their lumas stand side by side in a line, that of pixel x of row l in place 4 x + l, so that one
+// instruction serves four sums, each in its own order; and a luma is put together from products that are made once for
+// a picture.
 ghost use mathlib.Core.Path.{_≡_};
-ghost use Prim.Native.Nat.{_+_, _*_, _/_, _≤_, _<_};
+ghost use Prim.Native.Nat.{_+_, _*_, _≤_, _<_};
 ghost use lib.ListN.{length, getD, set};
 ghost use lib.Ieee.{nan};
 ghost use Rattle.seq.specs.Tab.{tab, filled};
+ghost use Rattle.seq.specs.Lines.{lines};
 ghost use Rattle.resample.specs.Resampled.{across};
+ghost use Rattle.resample.specs.Samples.{Sized};
 ghost use Rattle.resample.specs.Tables.{Tables};
-ghost use Rattle.resample.specs.Lanes.{beside, one, lane, share, Shares, lumaFrom, nextOf};
-use crate::rows::wide;
+ghost use Rattle.resample.specs.Lanes.{beside, one, lane, shareAt, lumaFrom, cappedAt, lumaLine, narrowFour};
+use crate::number::wide;
 
-// What each byte adds to the luma as a sample with this weight.
-pub fn shares(weight: f32, out: &mut [f32])
-    requires { ⌜ length (now out) ≡ 256 ⌝ }
-    ensures { λ _. ⌜ now (out .exit) ≡ tab (share weight) 256 ⌝ }
+// What each byte adds to the luma as a red sample, then as a green one, then as a blue one.
+pub fn shares(out: &mut [f32])
+    requires { ⌜ length (now out) ≡ 768 ⌝ }
+    ensures { λ _. ⌜ now (out .exit) ≡ tab shareAt 768 ⌝ }
 {
-    for v in 0..out.len() {
-        out[v] = weight * v as u8 as f32;
+    let weight = [0.299f32, 0.587, 0.114];
+    for k in 0..768usize {
+        out[k] = weight[k / 256] * (k % 256) as u8 as f32;
     }
 }
 
-fn share_of(shares: &[f32], v: u8) -> f32
-    requires { ⌜ length (now shares) ≡ 256 ⌝ }
-    ensures { λ r. ⌜ r ≡ getD (now (shares .entry)) v nan ⌝ }
+fn share_of(shares: &[f32], at: usize, v: u8) -> f32
+    requires { ⌜ at + 256 ≤ length (now shares) ⌝ }
+    ensures { λ r. ⌜ r ≡ getD (now (shares .entry)) (at + v) nan ⌝ }
 {
-    shares[v as usize]
+    shares[at + v as usize]
 }
 
 // The luma of the pixel whose samples start at place p.
-fn luma_from(samples: &[u8], p: usize, red: &[f32], green: &[f32], blue: &[f32]) -> f32
-    requires { ⌜ Shares (now red) (now green) (now blue) × (p + 3 ≤ length (now samples)) ⌝ }
+fn luma_from(samples: &[u8], p: usize, shares: &[f32]) -> f32
+    requires { ⌜ (now shares ≡ tab shareAt 768) × (p + 3 ≤ length (now samples)) ⌝ }
     ensures { λ r. ⌜ r ≡ lumaFrom (now (samples .entry)) p ⌝ }
 {
-    share_of(red, samples[p]) + share_of(green, samples[p + 1]) + share_of(blue, samples[p + 2])
+    share_of(shares, 0, samples[p])
+        + share_of(shares, 256, samples[p + 1])
+        + share_of(shares, 512, samples[p + 2])
 }
 
-// Four values from place q on.
-fn put_four(s: &mut [f32], q: usize, t: f32, u: f32, v: f32, w: f32)
-    requires { ⌜ q + 4 ≤ length (now s) ⌝ }
-    ensures { λ _. ⌜ now (s .exit) ≡ set (set (set (set (now (s .entry)) q t) (q + 1) u) (q + 2) v) (q + 3) w ⌝ }
+// Four values, the first in place q and each `step` places behind the one before it.
+fn put_four(s: &mut [f32], q: usize, step: usize, t: f32, u: f32, v: f32, w: f32)
+    requires { ⌜ q + 3 * step < length (now s) ⌝ }
+    ensures { λ _. ⌜ now (s .exit) ≡ set (set (set (set (now (s .entry)) q t) (q + step) u) (q + 2 * step) v) (q + 3 * step) w ⌝ }
 {
     s[q] = t;
-    s[q + 1] = u;
-    s[q + 2] = v;
-    s[q + 3] = w;
+    s[q + step] = u;
+    s[q + 2 * step] = v;
+    s[q + 3 * step] = w;
 }
 
 // The luma of the four rows whose samples start at the places a, b, c and d.
-pub fn luma_four(
+fn luma_four(
     a: usize,
     b: usize,
     c: usize,
     d: usize,
+    width: usize,
     channels: usize,
     samples: &[u8],
-    red: &[f32],
-    green: &[f32],
-    blue: &[f32],
+    shares: &[f32],
     line: &mut [f32],
 )
-    requires { ⌜ Shares (now red) (now green) (now blue) × (3 ≤ channels) × (a + length (now line) / 4 * channels ≤ length (now samples)) × (b + length (now line) / 4 * channels ≤ length (now samples)) × (c + length (now line) / 4 * channels ≤ length (now samples)) × (d + length (now line) / 4 * channels ≤ length (now samples)) × (length (now line) / 4 ≤ 8192) ⌝ }
-    ensures length { λ _. ⌜ length (now (line .exit)) ≡ length (now (line .entry)) ⌝ }
-    ensures line { λ _. ⌜ now (line .exit) ≡ filled (beside (λ l x. lumaFrom (now (samples .entry)) (one a b c d l + x * channels))) (4 * (length (now (line .entry)) / 4)) (now (line .entry)) ⌝ }
+    requires { ⌜ (now shares ≡ tab shareAt 768) × (3 ≤ channels) × (4 * width ≤ length (now line)) × (a + width * channels ≤ length (now samples)) × (b + width * channels ≤ length (now samples)) × (c + width * channels ≤ length (now samples)) × (d + width * channels ≤ length (now samples)) ⌝ }
+    ensures { λ _. ⌜ now (line .exit) ≡ filled (beside (λ l x. lumaFrom (now (samples .entry)) (one a b c d l + x * channels))) (4 * width) (now (line .entry)) ⌝ }
 {
-    for x in 0..line.len() / 4 {
+    for x in 0..width {
         let p = x * channels;
-        let t = luma_from(samples, a + p, red, green, blue);
-        let u = luma_from(samples, b + p, red, green, blue);
-        let v = luma_from(samples, c + p, red, green, blue);
-        let w = luma_from(samples, d + p, red, green, blue);
-        put_four(line, 4 * x, t, u, v, w);
+        let t = luma_from(samples, a + p, shares);
+        let u = luma_from(samples, b + p, shares);
+        let v = luma_from(samples, c + p, shares);
+        let w = luma_from(samples, d + p, shares);
+        put_four(line, 4 * x, 1, t, u, v, w);
     }
 }
 
 // Value x of each of the four rows: as `rows::value_across` makes it, one sum beside the other.
 fn values_across(
     x: usize,
+    width: usize,
     offsets: &[u16],
     index: &[u16],
     weight: &[f32],
-    source: &[f32],
+    line: &[f32],
 ) -> [f32; 4]
-    requires { ⌜ Tables (length (now source) / 4) 256 (now offsets) (now index) (now weight) × (x < 256) ⌝ }
-    ensures { λ r. ⌜ r ≡ tab (λ l. across (length (now (source .entry)) / 4) 256 (lane (now (source .entry)) l) x) 4 ⌝ }
+    requires { ⌜ Tables width 256 (now offsets) (now index) (now weight) × (x < 256) × (4 * width ≤ length (now line)) ⌝ }
+    ensures { λ r. ⌜ r ≡ tab (λ l. across width 256 (lane (now (line .entry)) l) x) 4 ⌝ }
 {
     let a = wide(offsets[x]);
     let e = wide(offsets[x + 1]);
@@ -93,39 +98,65 @@ fn values_across(
     for n in a..e {
         let k = 4 * wide(index[n]);
         let q = weight[n];
-        t = t + q * source[k];
-        u = u + q * source[k + 1];
-        v = v + q * source[k + 2];
-        w = w + q * source[k + 3];
+        t = t + q * line[k];
+        u = u + q * line[k + 1];
+        v = v + q * line[k + 2];
+        w = w + q * line[k + 3];
     }
     [t, u, v, w]
 }
 
-// The four rows brought to 256 values each.
-pub fn across_four(offsets: &[u16], index: &[u16], weight: &[f32], source: &[f32], out: &mut [f32])
-    requires { ⌜ Tables (length (now source) / 4) 256 (now offsets) (now index) (now weight) × (length (now out) ≡ 1024) ⌝ }
-    ensures { λ _. ⌜ now (out .exit) ≡ tab (beside (λ l x. across (length (now (source .entry)) / 4) 256 (lane (now (source .entry)) l) x)) 1024 ⌝ }
+// The four rows brought to 256 values each, one row behind the other.
+fn across_four(
+    width: usize,
+    offsets: &[u16],
+    index: &[u16],
+    weight: &[f32],
+    line: &[f32],
+    out: &mut [f32],
+)
+    requires { ⌜ Tables width 256 (now offsets) (now index) (now weight) × (4 * width ≤ length (now line)) × (length (now out) ≡ 1024) ⌝ }
+    ensures { λ _. ⌜ now (out .exit) ≡ lines (λ l. tab (across width 256 (lane (now (line .entry)) l)) 256) 4 ⌝ }
 {
     for x in 0..256usize {
-        let v = values_across(x, offsets, index, weight, source);
-        put_four(out, 4 * x, v[0], v[1], v[2], v[3]);
+        let v = values_across(x, width, offsets, index, weight, line);
+        put_four(out, x, 256, v[0], v[1], v[2], v[3]);
     }
 }
 
-// Row l of the four.
-pub fn pick(l: usize, four: &[f32], out: &mut [f32])
-    requires { ⌜ (l < 4) × (length (now four) ≡ 1024) × (length (now out) ≡ 256) ⌝ }
-    ensures { λ _. ⌜ now (out .exit) ≡ tab (lane (now (four .entry)) l) 256 ⌝ }
+// Row i, or the last row where there are no more than i.
+fn capped(i: usize, height: usize) -> usize
+    requires { ⌜ 0 < height ⌝ }
+    ensures { λ r. ⌜ r ≡ cappedAt i height ⌝ }
 {
-    for x in 0..256usize {
-        out[x] = four[4 * x + l];
-    }
+    if i < height { i } else { height - 1 }
 }
 
-// The row behind row i, or row i where it is the last.
-pub fn next(i: usize, height: usize) -> usize
-    requires { ⌜ i < height ⌝ }
-    ensures { λ r. ⌜ r ≡ nextOf i height ⌝ }
+// The rows 4 g to 4 g + 3 of a picture, the last row in place of those that it has not, brought to 256 values each, one
+// row behind the other. `shares` and the tables of taps are as `shares` and `window::taps` make them; `line` has room for
+// four rows of lumas, which are left in it.
+pub fn narrow_four(
+    g: usize,
+    width: usize,
+    height: usize,
+    channels: usize,
+    samples: &[u8],
+    shares: &[f32],
+    offsets: &[u16],
+    index: &[u16],
+    weight: &[f32],
+    line: &mut [f32],
+    out: &mut [f32],
+)
+    requires { ⌜ Sized width height channels (now samples) × (now shares ≡ tab shareAt 768) × Tables width 256 (now offsets) (now index) (now weight) × (4 * g < height) × (4 * width ≤ length (now line)) × (length (now out) ≡ 1024) ⌝ }
+    ensures line { λ _. ⌜ now (line .exit) ≡ lumaLine width height channels (now (samples .entry)) g (now (line .entry)) ⌝ }
+    ensures rows { λ _. ⌜ now (out .exit) ≡ narrowFour width height channels (now (samples .entry)) g ⌝ }
 {
-    if i + 1 < height { i + 1 } else { i }
+    let n = width * channels;
+    let a = capped(4 * g, height) * n;
+    let b = capped(4 * g + 1, height) * n;
+    let c = capped(4 * g + 2, height) * n;
+    let d = capped(4 * g + 3, height) * n;
+    luma_four(a, b, c, d, width, channels, samples, shares, line);
+    across_four(width, offsets, index, weight, line, out);
 }

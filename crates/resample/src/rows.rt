@@ -1,19 +1,12 @@
 // What both ways share: a row put through its taps, and a weighted row added to another.
 ghost use mathlib.Core.Path.{_≡_};
-ghost use Prim.Native.Nat.{_+_, _<_, _≤_};
+ghost use Prim.Native.Nat.{_<_};
 ghost use lib.ListN.{length, getD};
 ghost use lib.Ieee.{nan};
 ghost use Rattle.seq.specs.Tab.{tab};
-ghost use Rattle.window.specs.Window.{taps};
 ghost use Rattle.resample.specs.Resampled.{across};
 ghost use Rattle.resample.specs.Tables.{Tables, addedAt};
-ghost use Rattle.float.specs.Base.{zero-};
-
-pub fn wide(x: u16) -> usize
-    ensures { λ r. ⌜ r ≡ x ⌝ }
-{
-    x as usize
-}
+use crate::number::wide;
 
 // Value x of the row: weight times value for the taps from place a up to e, in order, from -0.0 as rustc starts a
 // float sum.
@@ -37,7 +30,7 @@ fn value_across(
     t
 }
 
-// The row brought to as many values as `out` has.
+// The row brought to as many values as `out` has, by the tables that `window::taps` makes.
 pub fn row_across(offsets: &[u16], index: &[u16], weight: &[f32], source: &[f32], out: &mut [f32])
     requires { ⌜ Tables (length (now source)) (length (now out)) (now offsets) (now index) (now weight) ⌝ }
     ensures { λ _. ⌜ now (out .exit) ≡ tab (across (length (now (source .entry))) (length (now (out .entry))) (λ k. getD (now (source .entry)) k nan)) (length (now (out .entry))) ⌝ }
@@ -48,7 +41,7 @@ pub fn row_across(offsets: &[u16], index: &[u16], weight: &[f32], source: &[f32]
     }
 }
 
-// Adds w times the row.
+// Adds w times the row to the sum, value by value.
 pub fn add_row(sum: &mut [f32], row: &[f32], w: f32)
     requires { ⌜ length (now sum) ≡ length (now row) ⌝ }
     ensures { λ _. ⌜ now (sum .exit) ≡ tab (addedAt (now (sum .entry)) w (now (row .entry))) (length (now (sum .entry))) ⌝ }

@@ -19,7 +19,7 @@ use Rattle.block.specs.Soft.{termOf}
 use Rattle.block.specs.Sheet.{marked-sheet, term-sheet, rest-sheet}
 use Rattle.window.specs.Sheet.{Line, tap, halved, doubled}
 use Rattle.resample.specs.Samples.{changedRow}
-use Rattle.resample.specs.Sheet.{change, written}
+use Rattle.upsample.specs.Sheet.{change, written}
 use Rattle.picture.specs.Admission.{shorter, longer, roomOf, admission, writeAdmission, first}
 use Rattle.resilient.specs.Resilient.{writeAnswer}
 

@@ -23,7 +23,7 @@ use Rattle.convolution.specs.Damage.{Fate, kept, zeroed, turned, votedF, zeros,
 use Rattle.convolution.specs.Demand3.{IsRecord, Laid, bitIn, decodedFrom, corrects}
 use Rattle.resample.specs.Samples.{Sized, planeOf}
 use Rattle.resample.specs.Finite.{Bytes, plane-within}
-use Rattle.resample.specs.Alpha.{fourth-kept}
+use Rattle.upsample.specs.Alpha.{fourth-kept}
 use Rattle.marking.specs.Finite.{length-votes, votes-good}
 use Rattle.picture.specs.declared.Picture.{Picture}
 use Rattle.picture.specs.Admission.{readAdmission}

@@ -28,9 +28,9 @@ fn put_bits(samples: &mut [u8], p: Picture, bits: &[u8; BLOCKS], plane: &mut [f3
     ensures length { λ _. ⌜ length (now (plane .exit)) ≡ 65536 ⌝ }
     ensures marked { λ _. ⌜ now (samples .exit) ≡ markedSamples p (now (bits .entry)) (now (samples .entry)) ⌝ }
 {
-    resample::down::plane(samples, p.width, p.height, p.channels, plane);
+    downsample::plane(samples, p.width, p.height, p.channels, plane);
     marking::embed_bits(plane, bits);
-    resample::up::change_samples(plane, p.width, p.height, p.channels, samples);
+    upsample::change_samples(plane, p.width, p.height, p.channels, samples);
 }
 
 // The same in a work area, which ends as zeros.
@@ -75,7 +75,7 @@ fn plane_votes(samples: &[u8], p: Picture, plane: &mut [f32]) -> [f32; BLOCKS]
     ensures length { λ _. ⌜ length (now (plane .exit)) ≡ 65536 ⌝ }
     ensures votes { λ r. ⌜ r ≡ pictureVotes p (now (samples .entry)) ⌝ }
 {
-    resample::down::plane(samples, p.width, p.height, p.channels, plane);
+    downsample::plane(samples, p.width, p.height, p.channels, plane);
     marking::block_soft(plane)
 }
 

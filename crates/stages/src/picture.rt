@@ -1,4 +1,4 @@
-// Crates `window` and `resample`.
+// Crates `window`, `resample`, `downsample` and `upsample`.
 use window::Weight;
 use window::Window;
 ghost use mathlib.Core.Path.{_≡_};
@@ -91,7 +91,7 @@ pub extern "C" fn vk_luma(row: &[u8], channels: usize, out: &mut [f32]) -> bool
 {
     let done = has_luma(row.len(), channels, out.len());
     if done {
-        resample::down::luma(row, channels, out);
+        resample::luma(row, channels, out);
     }
     done
 }
@@ -124,7 +124,7 @@ pub extern "C" fn vk_plane(
 {
     let done = has_plane(width, height, channels, samples.len(), plane.len());
     if done {
-        resample::down::plane(samples, width, height, channels, plane);
+        downsample::plane(samples, width, height, channels, plane);
     }
     done
 }
@@ -157,7 +157,7 @@ pub extern "C" fn vk_change(
 {
     let done = has_change(width, height, channels, change.len(), samples.len());
     if done {
-        resample::up::change_samples(change, width, height, channels, samples);
+        upsample::change_samples(change, width, height, channels, samples);
     }
     done
 }

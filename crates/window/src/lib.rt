@@ -1,4 +1,4 @@
-// The triangle kernel of document 01, for the crate `resample`: which source numbers each output sample reads, and
+// The triangle kernel of document 01, for the crates `downsample` and `upsample`: which source numbers each output sample reads, and
 // with what weights. `Window`, `tent`, `weight` and `taps` are those of the Rust. Every promise is an equation over
 // the definitions in specs/Window.antt; what bounds a window, its taps and its weights stands beside them.
 ghost use mathlib.Core.Path.{_≡_};

@@ -1,21 +1,18 @@
--- Before place n the sum is that of the taps of sample x that stand before it; `tap-more` adds one, and `from-inside` keeps its read in the source.
-use mathlib.Core.Path.{_≡_, refl, _∙_}
+-- Before place n the sum is that of the taps of sample x that stand before it; `one-more` adds one, and `from-inside` keeps its read in the source.
+use mathlib.Core.Path.{_≡_, _∙_}
 use Prim.Native.Nat.{_+_, _-_, _≤_, _<_}
 use native.Mathlib.Omega.{arith}
-use lib.ListN.{length, getD, take}
+use lib.ListN.{length, getD}
 use lib.Ieee.{nan, neg, ofBits}
 use denote.Ref.{now}
-use Rattle.float.specs.Base.{zero-}
-use Rattle.window.specs.Window.{taps}
 use Rattle.window.specs.Taps.{start, start-rises}
-use Rattle.resample.specs.Resampled.{total, across}
-use Rattle.resample.specs.Tables.{Tables, offset-at, place-fits, from-inside, tap-more, taps-all, total-none}
+use Rattle.resample.specs.Tables.{Tables, soFar, offset-at, place-fits, from-inside, none-yet, one-more, all-there}
 use borrow.Author.Needs.{needs}
 use Rattle.resample.proofs.rows.value_across.Statement.{statement}
 use Rattle.resample.proofs.rows.value_across.Tie as tie
 
 abbrev Inv-loop : tie.InvT-loop
-Inv-loop x dst offsets index weight source a e t₀ n₀ t n = (a ≡ start (length source) dst x) × (e ≡ start (length source) dst (x + 1)) × (a ≤ n) × (n ≤ e) × (t ≡ total zero- (take (n - start (length source) dst x) (taps (length source) dst x)) (λ k. getD source k nan))
+Inv-loop x dst offsets index weight source a e t₀ n₀ t n = (a ≡ start (length source) dst x) × (e ≡ start (length source) dst (x + 1)) × (a ≤ n) × (n ≤ e) × (t ≡ soFar (length source) dst x n (λ k. getD source k nan))
 
 abbrev μ-loop : tie.MeasureT-loop
 μ-loop x dst offsets index weight source a e t₀ n₀ t n = e - n
@@ -57,8 +54,7 @@ loop-holds c =
     let t : Tables src (p .args .dst) (now (p .args .offsets)) (now (p .args .index)) (now (p .args .weight)) = p .pre .0 in
     let a : c .before .before .wide .result ≡ start src (p .args .dst) (p .args .x) = c .before .before .wide .ensures ∙ offset-at t (p .args .x) (omega arith) in
     let e : c .wide2 .result ≡ start src (p .args .dst) (p .args .x + 1) = c .wide2 .ensures ∙ offset-at t (p .args .x + 1) (omega arith) in
-    let none : c .before .before .wide .result - start src (p .args .dst) (p .args .x) ≡ 0 = omega arith in
-    (a, e, search needs, omega (arith, start-rises src (p .args .dst) (p .args .x) (p .args .x + 1) (omega arith)), rw none (total-none zero- (taps src (p .args .dst) (p .args .x)) (λ k. getD (now (p .args .source)) k nan)))
+    (a, e, search needs, omega (arith, start-rises src (p .args .dst) (p .args .x) (p .args .x + 1) (omega arith)), none-yet src (p .args .dst) (p .args .x) (c .before .before .wide .result) (λ k. getD (now (p .args .source)) k nan) a)
 
 mul-t : tie.Need-mul-t Inv-loop μ-loop
 mul-t c = omega (arith, bound c)
@@ -94,16 +90,13 @@ loop-again c =
     let src = length (now (p .args .source)) in
     let t : Tables src (p .args .dst) (now (p .args .offsets)) (now (p .args .index)) (now (p .args .weight)) = p .pre .0 in
     let h = at .inv in
-    (h .0, h .1, search needs, search needs, rw (c .before .wide3 .ensures) (tap-more t (p .args .x) (at .n) (p .pre .1) (omega arith) (omega arith) zero- (at .t) (λ k. getD (now (p .args .source)) k nan) (h .4)))
+    (h .0, h .1, search needs, search needs, rw (c .before .wide3 .ensures) (one-more t (p .args .x) (at .n) (p .pre .1) (omega arith) (omega arith) (at .t) (λ k. getD (now (p .args .source)) k nan) (h .4)))
 
 returns : tie.Need-returns Inv-loop μ-loop
-unfolding across
 returns c =
     let p = c .before .before .before .before .before .before .before .before .before .before in
     let at = c .before .loop in
-    let src = length (now (p .args .source)) in
-    let e : at .n ≡ start src (p .args .dst) (p .args .x + 1) = omega arith in
-    rw (at .inv .4, e, taps-all (p .pre .0) (p .args .x)) refl
+    all-there (length (now (p .args .source))) (p .args .dst) (p .args .x) (at .n) (at .t) (λ k. getD (now (p .args .source)) k nan) (omega arith) (at .inv .4)
 
 pub value-across-spec : {M : Type 1} → statement M
 value-across-spec =

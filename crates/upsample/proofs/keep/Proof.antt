@@ -1,0 +1,122 @@
+-- The row stands where `held` says, or is made and put there; the other place is as it was.
+use mathlib.Core.Path.{_≡_, _∙_, ap}
+use Prim.Native.Nat.{suc, _+_, _-_, _*_, _%_, _≤_}
+use native.Mathlib.Numerals.{add-one}
+use native.Mathlib.Omega.{arith}
+use lib.ListN.{length, getD, take, drop, length-drop}
+use lib.Seq.{length-take-le}
+use Rattle.seq.specs.Part.{onPart}
+use Rattle.resample.specs.Samples.{wideRow}
+use Rattle.resample.specs.Kept.{part-size, kept-here, kept-new}
+use Rattle.upsample.specs.Widening.{wide-length}
+use borrow.Author.Needs.{needs}
+use Rattle.upsample.proofs.keep.Statement.{statement}
+use Rattle.upsample.proofs.keep.Tie as tie
+
+-- a place has room for a row
+room : (c : tie.Start) → c .args .k % 2 * 8192 + c .args .width ≤ 16384
+room c = omega (arith, c .pre .0 .kept .fits)
+
+-- and the part that is lent has its size
+size : (c : tie.Start) → length (take (c .args .k % 2 * 8192 + c .args .width - c .args .k % 2 * 8192) (drop (c .args .k % 2 * 8192) (c .args .rows .now))) ≡ c .args .width
+size c =
+    let at = c .args .k % 2 * 8192 in
+    rw (part-size at (c .args .width)) (length-take-le (c .args .width) (drop at (c .args .rows .now)) (omega (arith, room c, c .pre .0 .kept .rows-room, length-drop at (c .args .rows .now))))
+
+mul-at : tie.Need-mul-at
+mul-at c = search needs
+
+mul-if1 : tie.Need-mul-if1
+mul-if1 c = search needs
+
+slice-read-if1 : tie.Need-slice-read-if1
+slice-read-if1 c = search needs
+
+add-if1 : tie.Need-add-if1
+add-if1 c = search needs
+
+cast-if1 : tie.Need-cast-if1
+cast-if1 c = search needs
+
+returns : tie.Need-returns
+returns c =
+    let p = c .before .before .before .before .before .before .before .before in
+    let a = p .args in
+    let e : getD (a .held .now) (a .k % 2) 0 ≡ suc (a .k) = c .if1 .taken ∙ add-one (a .k) in
+    (p .pre .0, (room p, p .pre .0 .kept .is (a .k % 2) (a .k) (omega arith) e))
+
+add-end : tie.Need-add-end
+add-end c = record { fits = omega (arith, room (c .before .before .before .before .before .before .before .before)) }
+
+mul-wide-row : tie.Need-mul-wide-row
+mul-wide-row c = record { fits = omega (arith, room (c .before .before .before .before .before .before .before .before)) }
+
+sub-wide-row : tie.Need-sub-wide-row
+sub-wide-row c = search needs
+
+part-wide-row-start : tie.Need-part-wide-row-start
+part-wide-row-start c = search needs
+
+part-wide-row-end : tie.Need-part-wide-row-end
+part-wide-row-end c = omega (arith, room (c .before .before .before .before .before .before .before .before), c .before .before .before .before .before .before .before .before .pre .0 .kept .rows-room)
+
+wide-row-requires : tie.Need-wide-row-requires
+wide-row-requires c κs = let p = c .before .before .before .before .before .before .before .before .before in (p .pre .1, p .pre .0 .plane, rw (size p) (p .pre .0 .tables))
+
+add-held : tie.Need-add-held
+add-held c = search needs
+
+cast-held : tie.Need-cast-held
+cast-held c = search needs
+
+mul-held : tie.Need-mul-held
+mul-held c = search needs
+
+slice-write-held : tie.Need-slice-write-held
+slice-write-held c = search needs
+
+same-length : tie.Need-same-length
+same-length c = search needs
+
+same-length-2 : tie.Need-same-length-2
+same-length-2 c = search needs
+
+returns-2 : tie.Need-returns-2
+unfolding onPart
+returns-2 c =
+    let p = c .before .before .before .before .before .before .before .before .before .before .before .before in
+    let a = p .args in
+    let w = p .pre .0 in
+    let slot = a .k % 2 in
+    let made = c .before .before .wide-row in
+    let row = wideRow (a .width) (a .change .now) in
+    let v = made .last .1 .1 .1 .1 .1 .0 in
+    let is : v ≡ row (a .k) = rw (size p) at (made .ensures) in
+    let long : length v ≡ a .width = ap length is ∙ wide-length (a .width) (a .change .now) (a .k) in
+    let new = kept-new row (a .width) 8192 2 (a .held .now) (a .rows .now) (w .kept) slot (a .k) (omega arith) v long is in
+    let here = kept-here row (a .width) 8192 2 (a .held .now) (a .rows .now) (w .kept) slot (a .k) (omega arith) v long is in
+    rw (part-size (slot * 8192) (a .width)) (record { plane = w .plane; tables = w .tables; kept = new }, (room p, here))
+
+pub keep-spec : {M : Type 1} → statement M
+keep-spec =
+    tie.close
+    (tie.spec
+    mul-at
+    mul-if1
+    slice-read-if1
+    add-if1
+    cast-if1
+    returns
+    add-end
+    mul-wide-row
+    sub-wide-row
+    part-wide-row-start
+    part-wide-row-end
+    wide-row-requires
+    add-held
+    cast-held
+    mul-held
+    slice-write-held
+    same-length
+    same-length-2
+    returns-2)

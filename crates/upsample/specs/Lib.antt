@@ -1,0 +1,5 @@
+pub mod Widening
+pub mod Written
+pub mod Changed
+pub mod Alpha
+pub mod Sheet
