@@ -1,7 +1,7 @@
 // Replays the Rust's stored answers for crate `resilient`: data/marks.txt has texts written into pictures of 512 x 512, the
 // smallest that can be written, and read from them. Then the limits of what is taken, and which refusal is given where two
-// apply. All memory is lent with something in it and looked at after each call: the samples by their CRC-32, the work area,
-// which has room to spare, place by place.
+// apply; pictures of a few pixels and damaged ones, and votes under a key. All memory is lent with something in it and looked
+// at after each call: the samples by their CRC-32, the work area, which has room to spare, place by place.
 use lists::Field;
 use picture::Picture;
 use record::Answer;
@@ -344,8 +344,9 @@ fn may_read(
     )
 }
 
-// Each limit from both sides; samples and work area are what the picture needs, but where they are tried.
-fn write_limits(tally: Tally) -> Tally {
+// Each limit from both sides; samples and work area are what the picture needs, but where they are tried. Of two sides
+// that are too long the longer is given.
+fn write_sides(tally: Tally) -> Tally {
     let mut t = tally;
     t = may_write(t, square(3), THREE, 655360, 0, 0);
     t = may_write(t, shape(511, 512, 3), 784896, 654336, 3, 511);
@@ -354,6 +355,14 @@ fn write_limits(tally: Tally) -> Tally {
     t = may_write(t, shape(512, 8192, 3), 12582912, 8519680, 0, 0);
     t = may_write(t, shape(8193, 512, 3), 12584448, 8520704, 4, 8193);
     t = may_write(t, shape(512, 8193, 3), 12584448, 8520704, 4, 8193);
+    t = may_write(t, shape(8193, 9000, 3), 221211000, 147605072, 4, 9000);
+    may_write(t, shape(9000, 8193, 3), 221211000, 147605072, 4, 9000)
+}
+
+fn write_counts(tally: Tally) -> Tally {
+    let mut t = tally;
+    t = may_write(t, square(0), 0, 655360, 5, 0);
+    t = may_write(t, square(1), 262144, 655360, 5, 1);
     t = may_write(t, square(2), 524288, 655360, 5, 2);
     t = may_write(t, square(4), FOUR, 655360, 0, 0);
     t = may_write(t, square(5), 1310720, 655360, 5, 5);
@@ -362,7 +371,7 @@ fn write_limits(tally: Tally) -> Tally {
     may_write(t, square(3), THREE, 655359, 7, 655360)
 }
 
-fn read_limits(tally: Tally) -> Tally {
+fn read_sides(tally: Tally) -> Tally {
     let mut t = tally;
     t = may_read(t, shape(1, 1, 3), 3, 65537, 0, 0);
     t = may_read(t, shape(0, 1, 3), 0, 65536, 8, 0);
@@ -371,12 +380,40 @@ fn read_limits(tally: Tally) -> Tally {
     t = may_read(t, shape(1, 8192, 3), 24576, 73728, 0, 0);
     t = may_read(t, shape(8193, 1, 3), 24579, 73729, 4, 8193);
     t = may_read(t, shape(1, 8193, 3), 24579, 73729, 4, 8193);
+    t = may_read(t, shape(8193, 9000, 3), 221211000, 73802536, 4, 9000);
+    may_read(t, shape(9000, 8193, 3), 221211000, 73802536, 4, 9000)
+}
+
+fn read_counts(tally: Tally) -> Tally {
+    let mut t = tally;
+    t = may_read(t, shape(1, 1, 0), 0, 65537, 5, 0);
+    t = may_read(t, shape(1, 1, 1), 1, 65537, 5, 1);
     t = may_read(t, shape(1, 1, 2), 2, 65537, 5, 2);
     t = may_read(t, shape(1, 1, 4), 4, 65537, 0, 0);
     t = may_read(t, shape(1, 1, 5), 5, 65537, 5, 5);
     t = may_read(t, shape(1, 1, 3), 2, 65537, 6, 2);
     t = may_read(t, shape(1, 1, 3), 4, 65537, 6, 4);
     may_read(t, shape(1, 1, 3), 3, 65536, 7, 65537)
+}
+
+fn limits() {
+    let written = write_counts(write_sides(none()));
+    report(b"limits", read_counts(read_sides(written)));
+}
+
+fn no_lock() -> Lock {
+    Lock {
+        given: false,
+        key: [0; 32],
+        salt: [0; 4],
+    }
+}
+
+fn no_key() -> Key {
+    Key {
+        given: false,
+        bytes: [0; 32],
+    }
 }
 
 // Whether writing is refused so, and samples and work area stay as they were lent.
@@ -391,14 +428,9 @@ fn not_written(
 ) -> Tally
     requires { ⌜ length (now work) ≤ 1048576 ⌝ }
 {
-    let lock = Lock {
-        given: false,
-        key: [0; 32],
-        salt: [0; 4],
-    };
     lend(work);
     let before = crc32::crc32(samples);
-    let answer = resilient::write(samples, p, text, lock, work);
+    let answer = resilient::write(samples, p, text, no_lock(), work);
     let after = crc32::crc32(samples);
     count(
         tally,
@@ -417,12 +449,8 @@ fn not_read(
 ) -> Tally
     requires { ⌜ length (now work) ≤ 1048576 ⌝ }
 {
-    let key = Key {
-        given: false,
-        bytes: [0; 32],
-    };
     lend(work);
-    let reading = resilient::read(samples, p, key, work);
+    let reading = resilient::read(samples, p, no_key(), work);
     let answer = reading.answer;
     count(
         tally,
@@ -554,12 +582,141 @@ fn order(samples: &mut [u8], work: &mut [f32])
     report(b"order", reading(t, samples, work));
 }
 
+// The text that is written into the picture that is damaged, and laid over the votes, with zeros after it.
+const TEXT: [u8; 32] = *b"Svalbard pass 4711\0\0\0\0\0\0\0\0\0\0\0\0\0\0";
+
+// Whether the text was read, or else refused so.
+fn says(reading: Reading, number: u64, given: u64) -> bool {
+    let answer = reading.answer;
+    let text = reading.text;
+    let right = if number == 0 {
+        reading.length == 18 && check::same(&text, &TEXT)
+    } else {
+        is_empty(reading)
+    };
+    right && is(answer, number, given)
+}
+
+// The same of a picture that is not refused, so that the work area is used, whatever the record says.
+fn looked_at(tally: Tally, samples: &[u8], p: Picture, work: &mut [f32], number: u64) -> Tally
+    requires { ⌜ length (now work) ≤ 1048576 ⌝ }
+{
+    lend(work);
+    let reading = resilient::read(samples, p, no_key(), work);
+    count(tally, says(reading, number, 0) && is_left(work, false))
+}
+
+fn looked_at_part(
+    tally: Tally,
+    samples: &[u8],
+    n: usize,
+    p: Picture,
+    work: &mut [f32],
+    number: u64,
+) -> Tally
+    requires { ⌜ (n ≤ length (now samples)) × (length (now work) ≤ 1048576) ⌝ }
+{
+    looked_at(tally, &samples[0..n], p, work, number)
+}
+
+// Pictures of a few pixels have all the blocks, and no mark in them.
+fn tiny(tally: Tally, samples: &[u8], work: &mut [f32]) -> Tally
+    requires { ⌜ (length (now samples) ≡ 1048576) × (length (now work) ≡ 655424) ⌝ }
+{
+    let t = looked_at_part(tally, samples, 3, shape(1, 1, 3), work, 8);
+    looked_at_part(t, samples, 24, shape(2, 3, 4), work, 8)
+}
+
+fn small(tally: Tally, samples: &[u8], work: &mut [f32]) -> Tally
+    requires { ⌜ (length (now samples) ≡ 1048576) × (length (now work) ≡ 655424) ⌝ }
+{
+    let t = looked_at_part(tally, samples, 768, shape(16, 16, 3), work, 8);
+    looked_at_part(t, samples, 1024, shape(16, 16, 4), work, 8)
+}
+
+// Only the bits of the mask are left of each sample.
+fn coarsen(samples: &mut [u8], mask: u8) {
+    for p in 0..samples.len() {
+        samples[p] = samples[p] & mask;
+    }
+}
+
+fn coarsened(tally: Tally, samples: &mut [u8], mask: u8, work: &mut [f32], number: u64) -> Tally
+    requires { ⌜ length (now work) ≤ 1048576 ⌝ }
+{
+    coarsen(samples, mask);
+    looked_at(tally, samples, square(3), work, number)
+}
+
+// A mark in samples that lose their six low bits is read, and with seven lost it is not.
+fn damaged(tally: Tally, samples: &mut [u8], work: &mut [f32]) -> Tally
+    requires { ⌜ (length (now samples) ≤ 1048576) × (length (now work) ≤ 1048576) ⌝ }
+{
+    draw(samples);
+    resilient::write(samples, square(3), b"Svalbard pass 4711", no_lock(), work);
+    let t = coarsened(tally, samples, 0xc0, work, 0);
+    coarsened(t, samples, 0x80, work, 8)
+}
+
+fn damaged_part(tally: Tally, samples: &mut [u8], n: usize, work: &mut [f32]) -> Tally
+    requires { ⌜ (n ≤ length (now samples)) × (length (now samples) ≤ 1048576) × (length (now work) ≤ 1048576) ⌝ }
+{
+    damaged(tally, &mut samples[0..n], work)
+}
+
+fn pictures(samples: &mut [u8], work: &mut [f32])
+    requires { ⌜ (length (now samples) ≡ 1048576) × (length (now work) ≡ 655424) ⌝ }
+{
+    draw(samples);
+    let t = small(tiny(none(), samples, work), samples, work);
+    report(b"pictures", damaged_part(t, samples, THREE, work));
+}
+
+// A vote without doubt for each digit, 0 or 1.
+fn vote_all(digits: &[u8], votes: &mut [f32])
+    requires { ⌜ length (now digits) ≡ length (now votes) ⌝ }
+{
+    for b in 0..votes.len() {
+        votes[b] = if digits[b] == b'1' { -1.0 } else { 1.0 };
+    }
+}
+
+// The votes of a record under the first key, read with it, with another and with none.
+fn with_keys(votes: &[f32]) -> Tally {
+    let right = Key {
+        given: true,
+        bytes: *b"\x66\x3e\x52\x8c\xaa\xab\x0d\xa3\xdd\xb3\x79\x35\x3b\xa6\xc1\x00\x19\x82\x7d\x44\x70\xf1\xb0\x0f\x55\x37\x41\xb3\xad\x1c\x32\xb0",
+    };
+    let wrong = Key {
+        given: true,
+        bytes: [0; 32],
+    };
+    let mut t = none();
+    t = count(t, says(resilient::read_votes(votes, right), 0, 0));
+    t = count(t, says(resilient::read_votes(votes, wrong), 13, 0));
+    count(
+        t,
+        says(resilient::read_votes(votes, no_key()), 11, 0xeec1_11a4),
+    )
+}
+
+// The file has a digit for each block: the bit that the Rust lays there of the text's record under the first key.
+fn keyed(name: &[u8]) {
+    let mut text = lists::room();
+    let mut votes = [0.0f32; 1024];
+    lists::load(name, &mut text);
+    vote_all(&text[0..1024], &mut votes);
+    report(name, with_keys(&votes));
+}
+
 fn run(samples: &mut [u8], work: &mut [f32])
     requires { ⌜ (length (now samples) ≡ 1048576) × (length (now work) ≡ 655424) ⌝ }
 {
     list(b"marks.txt", samples, work);
-    report(b"limits", read_limits(write_limits(none())));
+    limits();
     order(samples, work);
+    pictures(samples, work);
+    keyed(b"keyed");
 }
 
 // Lent as arrays they have their lengths by type, and no proof counts a million places.
