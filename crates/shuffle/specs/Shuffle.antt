@@ -1,6 +1,6 @@
 -- The keyed shuffle. Document 01: "for i from 0, range = len - i; draw 8 keystream bytes little-endian; draw again while the
 -- value is not below the largest multiple of range that is at most 2^64; r = value mod range; exchange entries i and i + r of
--- the list 0, 1, 2 and so on." Definitions for any stream and any length of list, and what `shuffle` gives. Assumes nothing.
+-- the list 0, 1, 2 and so on." Definitions for any stream and any length of list, and what `shuffle` gives. Definitions only.
 use mathlib.Core.Bool.{Bool, true, false, cond}
 use mathlib.Core.List.{List, []}
 use Prim.Native.Nat.{ℕ, zero, suc, _+_, _-_, _*_, _/_, _%_, _^_, min}

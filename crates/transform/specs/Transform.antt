@@ -1,4 +1,4 @@
--- The 8x8 transform and its inverse, over the matrix of `Matrix`. A sum of eight is taken in index order from -0, in `f32`. Assumes nothing.
+-- The 8x8 transform and its inverse, over the matrix of `Matrix`. A sum of eight is taken in index order from -0, in `f32`. Definitions only.
 use mathlib.Core.List.{List}
 use Prim.Native.Nat.{ℕ}
 use lib.Ieee.{Float, binary32, add, mul}

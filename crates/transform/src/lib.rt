@@ -6,23 +6,35 @@ use matrix::MATRIX;
 ghost use mathlib.Core.Path.{_≡_};
 ghost use Prim.Native.Nat.{_<_};
 ghost use Rattle.transform.specs.Grid.{grid};
-ghost use Rattle.transform.specs.Matrix.{entry, turnedEntry};
+ghost use Rattle.transform.specs.Matrix.{matrix, entry, turnedEntry};
 ghost use Rattle.transform.specs.Transform.{forwardOf, inverseOf};
 ghost use Rattle.transform.specs.Product.{dotOf};
 ghost use Rattle.transform.specs.Columns.{column};
+
+fn entry_at(table: &[[f32; 8]; 8], k: usize, i: usize) -> f32
+    requires { ⌜ (now table ≡ matrix) × (k < 8) × (i < 8) ⌝ }
+    ensures { λ x. ⌜ x ≡ entry k i ⌝ }
+{
+    table[k][i]
+}
 
 // The matrix, line by line, for `forward` and `inverse`. Made once and lent: a constant is rebuilt at every use.
 pub fn dct_matrix() -> [f32; 64]
     ensures { λ m. ⌜ m ≡ grid entry ⌝ }
 {
-    MATRIX
+    let table = MATRIX;
+    let mut m = [0.0f32; 64];
+    for p in 0..64usize {
+        m[p] = entry_at(&table, p / 8, p % 8);
+    }
+    m
 }
 
 // The same with its lines and columns exchanged.
 pub fn dct_turned() -> [f32; 64]
     ensures { λ m. ⌜ m ≡ grid turnedEntry ⌝ }
 {
-    let matrix = MATRIX;
+    let matrix = dct_matrix();
     let mut m = [0.0f32; 64];
     for p in 0..64usize {
         m[p] = matrix[p % 8 * 8 + p / 8];

@@ -4,7 +4,7 @@ use crate::picture::Picture;
 use crate::random::Random;
 use crate::records::refusal;
 use crate::resilient::{self, Key, Lock};
-use crate::{crc32, hex};
+use crate::{crc32, hex, stages};
 
 const SIDE: usize = 512;
 
@@ -43,18 +43,31 @@ fn line(channels: usize, text: &[u8], lock: Option<Lock>, with: Option<Key>) -> 
     )
 }
 
+const TEXT: &[u8] = b"Svalbard pass 4711";
+
+/// The lock, and what follows it.
+fn first_lock() -> (Lock, Random) {
+    let mut random = Random::new(512);
+    (Lock { key: random.array(), salt: random.array() }, random)
+}
+
+/// The bit, as a digit, that each block of a picture gets for the text under the lock.
+pub fn locked_bits() -> String {
+    let record = resilient::record(TEXT, Some(first_lock().0)).expect("it fits");
+    stages::block_bits(&stages::encode(&record)).iter().map(u8::to_string).collect()
+}
+
 /// Texts of no bytes, of some and of 32, and two that are refused, so that the picture stays without a mark; plain and
 /// under a key; each read without a key, with this one and with another.
 pub fn lines() -> Vec<String> {
     let texts: [&[u8]; 5] = [
         b"",
-        b"Svalbard pass 4711",
+        TEXT,
         "NOAA 19 Kärdla 2026-11-15 05:46".as_bytes(),
         &[b'a'; 33],
         b"ab\xc3",
     ];
-    let mut random = Random::new(512);
-    let lock = Lock { key: random.array(), salt: random.array() };
+    let (lock, mut random) = first_lock();
     let keys = [None, Some(lock.key), Some(random.array())];
     let mut lines = Vec::new();
     for channels in [3, 4] {

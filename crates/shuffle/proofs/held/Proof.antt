@@ -1,17 +1,14 @@
+-- The test is the definition's, each way. Assumes nothing.
 use borrow.Author.Needs.{needs}
 use mathlib.Core.Path.{sym}
 use borrow.Author.Tests.{le-leb, lt-leb}
 use Rattle.shuffle.specs.Shuffle.{longest}
 use Rattle.shuffle.proofs.held.Statement.{statement}
 use Rattle.shuffle.proofs.held.Tie as tie
-use Rattle.shuffle.proofs.held.Reads as reads
-use Rattle.shuffle.proofs.held.Lts as lts
 
--- src/shuffle.rt:38:1
 returns : tie.Need-returns
 returns c = (sym (rw (le-leb (c .before .args .len) longest (c .if1 .taken))), search needs)
 
--- src/shuffle.rt:38:1
 returns-2 : tie.Need-returns-2
 returns-2 c = (sym (rw (lt-leb (c .before .args .len) longest (c .if1 .left))), search needs)
 

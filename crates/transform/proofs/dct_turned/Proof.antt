@@ -4,9 +4,7 @@ use mathlib.Core.Path.{_≡_, refl, _∙_}
 use Prim.Native.Nat.{_-_, _/_, _%_, _≤_}
 use native.Mathlib.Omega.{arith}
 use lib.ListN.{length, take}
-use lib.Ieee.{ofBits}
 use Rattle.seq.specs.Tab.{tab, prefix-more, prefix-all}
-use Rattle.seq.specs.Lines.{lines}
 use Rattle.transform.specs.Grid.{grid, cell-grid}
 use Rattle.transform.specs.Matrix.{entry, turnedEntry}
 use Rattle.transform.specs.Columns.{table-grid}
@@ -19,9 +17,12 @@ Inv-loop matrix m₀ p₀ m p = (matrix ≡ grid entry) × (p ≤ 64) × (length
 abbrev μ-loop : tie.MeasureT-loop
 μ-loop matrix m₀ p₀ m p = 64 - p
 
+dct-matrix-requires : tie.Need-dct-matrix-requires Inv-loop μ-loop
+dct-matrix-requires c κs = search needs
+
 loop-holds : tie.Need-loop-holds Inv-loop μ-loop
-unfolding grid lines tab ofBits
-loop-holds c = (refl, search needs, refl, refl)
+unfolding tab
+loop-holds c = (c .dct-matrix .ensures, search needs, refl, refl)
 
 mul-m : tie.Need-mul-m Inv-loop μ-loop
 mul-m c = search needs
@@ -63,6 +64,7 @@ dct-turned-spec =
     (tie.spec
     Inv-loop
     μ-loop
+    dct-matrix-requires
     loop-holds
     mul-m
     add-m

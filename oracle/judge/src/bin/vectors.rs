@@ -655,5 +655,5 @@ fn main() -> std::io::Result<()> {
     for list in lists {
         list.write(Path::new(folder), rustc)?;
     }
-    Ok(())
+    fs::write(Path::new(folder).join("replay_resilient/data/keyed"), marks::locked_bits())
 }
