@@ -15,6 +15,7 @@ pub mod Block
 pub mod Marking
 pub mod Window
 pub mod Resample
+pub mod Lanes
 pub mod Downsample
 pub mod Upsample
 pub mod Picture

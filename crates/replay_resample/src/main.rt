@@ -85,7 +85,7 @@ fn luma_room() -> [f32; 64]
 fn made_luma(row: &[u8], channels: usize, out: &mut [f32], expected: &[u8]) -> bool
     requires { ⌜ (3 ≤ channels) × (channels ≤ 4) × (length (now row) ≡ length (now out) * channels) × (length (now out) ≤ 64) × (length (now expected) ≡ 256) ⌝ }
 {
-    resample::luma(row, channels, out);
+    lanes::luma(row, channels, out);
     same(out, expected)
 }
 

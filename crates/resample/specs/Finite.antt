@@ -20,7 +20,7 @@ use Rattle.window.specs.Reach.{reach, taps-few, taps-from, taps-room-down}
 use Rattle.window.specs.Weights.{weights-within}
 use Rattle.resample.specs.Tables.{noTap}
 use Rattle.resample.specs.Resampled.{total, across, resampled}
-use Rattle.resample.specs.Samples.{rowOf, value, lumaAt, planeRow, planeOf, changeRow}
+use Rattle.resample.specs.Samples.{rowOf, value, lumaFrom, lumaAt, planeRow, planeOf, changeRow}
 
 -- every sample is below 256; behind the last a list reads as 0
 abbrev pub Bytes : List ℕ → Type 0
@@ -38,7 +38,7 @@ part-within w n row p N B W = mul-within binary32 w (value row p) n 1024 255 1 (
 
 -- 0.299, 0.587 and 0.114 are at most 307, 602 and 117 of 1024 parts, which with samples up to 255 stays below 256
 pub luma-within : (channels : ℕ) (row : List ℕ) (x : ℕ) → Bytes row → Within (lumaAt channels row x) (2 ^ 8) 1
-unfolding lumaAt ofBits
+unfolding lumaFrom ofBits
 luma-within channels row x B =
     within-more (lumaAt channels row x) (307 * 255 + 602 * 255 + 117 * 255) 1024 (2 ^ 8) 1 (zero-lt-suc 1023)
     (add-within binary32 _ _ (307 * 255 + 602 * 255) (117 * 255) 1024 (zero-lt-suc 1023) (holds-scaled binary32 (307 * 255 + 602 * 255 + 117 * 255) 10 (lit≤ tt) (lit≤ tt))

@@ -2,7 +2,6 @@ pub mod Resampled
 pub mod Samples
 pub mod Tables
 pub mod Kept
-pub mod Lanes
 pub mod Pixels
 pub mod Sums
 pub mod Finite

@@ -33,11 +33,23 @@ rowOf n d y = take n (drop (y * n) d)
 abbrev pub value : List ℕ → ℕ → Float
 value row p = ofInt binary32 (pos (getD row p 0))
 
--- (0.299 R + 0.587 G) + 0.114 B of pixel x
-unfoldable pub lumaAt : ℕ → List ℕ → ℕ → Float
-lumaAt channels row x =
-    add binary32 (add binary32 (mul binary32 (ofBits binary32 0x3e99_1687) (value row (x * channels))) (mul binary32 (ofBits binary32 0x3f16_45a2) (value row (x * channels + 1))))
-    (mul binary32 (ofBits binary32 0x3de9_78d5) (value row (x * channels + 2)))
+-- 0.299, 0.587 and 0.114
+abbrev pub red : Float
+red = ofBits binary32 0x3e99_1687
+
+abbrev pub green : Float
+green = ofBits binary32 0x3f16_45a2
+
+abbrev pub blue : Float
+blue = ofBits binary32 0x3de9_78d5
+
+-- (0.299 R + 0.587 G) + 0.114 B of the pixel whose samples start at place p
+unfoldable pub lumaFrom : List ℕ → ℕ → Float
+lumaFrom row p = add binary32 (add binary32 (mul binary32 red (value row p)) (mul binary32 green (value row (p + 1)))) (mul binary32 blue (value row (p + 2)))
+
+-- of pixel x
+abbrev pub lumaAt : ℕ → List ℕ → ℕ → Float
+lumaAt channels row x = lumaFrom row (x * channels)
 
 -- row k of the samples, as 256 values
 unfoldable pub narrowRow : ℕ → ℕ → List ℕ → ℕ → List Float

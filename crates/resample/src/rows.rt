@@ -1,4 +1,4 @@
-// What both ways share: a row put through its taps, and a weighted row added to another.
+// A row put through its taps, as `upsample` does it one by one, and a weighted row added to another, as both ways do.
 ghost use mathlib.Core.Path.{_≡_};
 ghost use Prim.Native.Nat.{_<_};
 ghost use lib.ListN.{length, getD};
@@ -6,7 +6,13 @@ ghost use lib.Ieee.{nan};
 ghost use Rattle.seq.specs.Tab.{tab};
 ghost use Rattle.resample.specs.Resampled.{across};
 ghost use Rattle.resample.specs.Tables.{Tables, addedAt};
-use crate::number::wide;
+
+// A number of the tables as an index.
+fn wide(x: u16) -> usize
+    ensures { λ r. ⌜ r ≡ x ⌝ }
+{
+    x as usize
+}
 
 // Value x of the row: weight times value for the taps from place a up to e, in order, from -0.0 as rustc starts a
 // float sum.

@@ -91,7 +91,7 @@ pub extern "C" fn vk_luma(row: &[u8], channels: usize, out: &mut [f32]) -> bool
 {
     let done = has_luma(row.len(), channels, out.len());
     if done {
-        resample::luma(row, channels, out);
+        lanes::luma(row, channels, out);
     }
     done
 }

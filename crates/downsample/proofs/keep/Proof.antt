@@ -9,7 +9,7 @@ use lib.Seq.{length-take-le}
 use lib.Ieee.{Float}
 use Rattle.seq.specs.Part.{onPart}
 use Rattle.resample.specs.Kept.{part-size, kept-here, kept-new}
-use Rattle.resample.specs.Lanes.{narrowFour}
+use Rattle.lanes.specs.Lanes.{narrowFour}
 use Rattle.downsample.specs.Narrowing.{four-length, row-among, line-kept}
 use borrow.Author.Needs.{needs}
 use Rattle.downsample.proofs.keep.Statement.{statement}

@@ -6,7 +6,7 @@ use lib.ListN.{replicate, length-replicate}
 use lib.Ieee.{ofBits}
 use Rattle.float.specs.Base.{zero+}
 use Rattle.resample.specs.Kept.{kept-empty}
-use Rattle.resample.specs.Lanes.{narrowFour}
+use Rattle.lanes.specs.Lanes.{narrowFour}
 use Rattle.resample.specs.Tables.{tables-made, room-down}
 use borrow.Author.Needs.{needs}
 use Rattle.downsample.proofs.plane.Statement.{statement}

@@ -5,10 +5,10 @@ use native.Mathlib.Omega.{arith}
 use lib.Dec.{ltb, lt→ltb}
 use lib.Arith.{le→nltb}
 use lib.Ieee.Bits.{is-true, is-false}
-use Rattle.resample.specs.Lanes.{cappedAt}
+use Rattle.lanes.specs.Lanes.{cappedAt}
 use borrow.Author.Needs.{needs}
-use Rattle.resample.proofs.four.capped.Statement.{statement}
-use Rattle.resample.proofs.four.capped.Tie as tie
+use Rattle.lanes.proofs.capped.Statement.{statement}
+use Rattle.lanes.proofs.capped.Tie as tie
 
 sub-result : tie.Need-sub-result
 sub-result c = search needs

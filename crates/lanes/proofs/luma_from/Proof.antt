@@ -4,11 +4,10 @@ use Prim.Native.Nat.{_+_}
 use native.Mathlib.Omega.{arith}
 use lib.ListN.{length}
 use Rattle.seq.specs.Tab.{length-tab}
-use Rattle.resample.specs.Lanes.{shareAt, luma-looked}
+use Rattle.lanes.specs.Lanes.{shareAt, luma-looked}
 use borrow.Author.Needs.{needs}
-use Rattle.resample.proofs.four.luma_from.Statement.{statement}
-use Rattle.resample.proofs.four.luma_from.Tie as tie
-use Rattle.resample.proofs.four.share_of.Reads as share-of-reads
+use Rattle.lanes.proofs.luma_from.Statement.{statement}
+use Rattle.lanes.proofs.luma_from.Tie as tie
 
 long : (c : tie.Start) → length (c .args .shares .now) ≡ 768
 long c = ap length (c .pre .0) ∙ length-tab shareAt 768
@@ -42,7 +41,7 @@ returns c =
     let p = c .before .before .before .before .before .before .before .before in
     let known = c .before .before .before .before .before .before .before .shared-slice-known .given in
     rw (c .before .before .before .before .share-of .ensures, c .before .before .share-of2 .ensures, c .share-of3 .ensures)
-    (luma-looked (p .args .shares .now) (p .pre .0) (p .args .samples .now) (p .args .p) (omega (arith, known (p .args .p))) (omega (arith, known (p .args .p + 1))) (omega (arith, known (p .args .p + 2))))
+    (luma-looked (p .args .shares .now) (p .pre .0) (p .args .row .now) (p .args .p) (omega (arith, known (p .args .p))) (omega (arith, known (p .args .p + 1))) (omega (arith, known (p .args .p + 2))))
 
 pub luma-from-spec : {M : Type 1} → statement M
 luma-from-spec =

@@ -8,21 +8,20 @@ use native.Mathlib.Nat.{eq-or-lt-of-le}
 use native.Mathlib.Omega.{arith}
 use lib.Dec.{T, ltb, ltb→lt, lt→ltb}
 use lib.IntN.{pos}
-use lib.ListN.{length, getD, set, drop, length-set, List·getD-append}
-use lib.Seq.{ext-getD, getD-take, getD-drop, getD-set-same, getD-set-other}
+use lib.ListN.{length, getD, set, take, drop, length-set, length-drop, List·getD-append}
+use lib.Seq.{ext-getD, length-take-le, getD-set-same, getD-set-other}
 use lib.Ieee.{Float, nan, binary32, ofBits, ofInt, add, mul}
 use lib.Ieee.Bits.{is-true}
 use Rattle.seq.specs.Tab.{tab, filled, length-tab, getD-tab, tab-same, filled-more}
 use Rattle.seq.specs.Lines.{lines, lines-same, length-lines, getD-lines}
 use Rattle.resample.specs.Resampled.{across}
-use Rattle.resample.specs.Samples.{value, rowOf, lumaAt, narrowRow}
+use Rattle.resample.specs.Samples.{red, green, blue, lumaFrom, rowOf, lumaAt, narrowRow}
 use Rattle.resample.specs.Tables.{across-same}
-use Rattle.resample.specs.Pixels.{pixel-fits}
 
 -- ---- side by side
 
 -- of four, the one of a row
-unfoldable pub one : ℕ → ℕ → ℕ → ℕ → ℕ → ℕ
+unfoldable pub one : {A : Type 0} → A → A → A → A → ℕ → A
 one a b c d zero = a
 one a b c d (suc zero) = b
 one a b c d (suc (suc zero)) = c
@@ -118,19 +117,12 @@ module _ {A : Type 0} (z : A) (f : ℕ → ℕ → A) where
 
 -- ---- products looked up
 
--- 0.299, 0.587 and 0.114
-abbrev pub weights : List Float
-weights = ofBits binary32 0x3e99_1687 ∷ ofBits binary32 0x3f16_45a2 ∷ ofBits binary32 0x3de9_78d5 ∷ []
+abbrev weights : List Float
+weights = red ∷ green ∷ blue ∷ []
 
 -- what value k mod 256 of channel k / 256 adds to the luma
 unfoldable pub shareAt : ℕ → Float
 shareAt k = mul binary32 (getD weights (k / 256) nan) (ofInt binary32 (pos (k % 256)))
-
--- the luma of the pixel whose samples start at place p
-unfoldable pub lumaFrom : List ℕ → ℕ → Float
-lumaFrom samples p =
-    add binary32 (add binary32 (mul binary32 (ofBits binary32 0x3e99_1687) (value samples p)) (mul binary32 (ofBits binary32 0x3f16_45a2) (value samples (p + 1))))
-    (mul binary32 (ofBits binary32 0x3de9_78d5) (value samples (p + 2)))
 
 looked : (c v : ℕ) → c < 3 → v < 256 → getD (tab shareAt 768) (c * 256 + v) nan ≡ mul binary32 (getD weights c nan) (ofInt binary32 (pos v))
 unfolding shareAt
@@ -174,38 +166,31 @@ lumaLine width height channels samples g line = filled (beside (fourAt width hei
 unfoldable pub narrowFour : ℕ → ℕ → ℕ → List ℕ → ℕ → List Float
 narrowFour width height channels samples g = lines (λ l. narrowRow width channels samples (cappedAt (4 * g + l) height)) 4
 
-module _ (channels : ℕ) (samples : List ℕ) (n i x : ℕ) (fits : x * channels + 3 ≤ n) where
-  sample-at : (q r : ℕ) → q < n → i * n + q ≡ r → getD (rowOf n samples i) q 0 ≡ getD samples r 0
-  unfolding rowOf
-  sample-at q r h e = getD-take n (drop (i * n) samples) q 0 h ∙ (getD-drop (i * n) samples q 0 ∙ ap (λ (m : ℕ). getD samples m 0) e)
+-- of four things, by the rows from row 4 g on, the one of row l
+one-row : {A : Type 0} (f : ℕ → A) (g height l : ℕ) → l < 4 → one (f (cappedAt (4 * g) height)) (f (cappedAt (4 * g + 1) height)) (f (cappedAt (4 * g + 2) height)) (f (cappedAt (4 * g + 3) height)) l ≡ f (cappedAt (4 * g + l) height)
+unfolding one
+one-row f g height zero h = let e : 4 * g + 0 ≡ 4 * g = omega arith in rw e refl
+one-row f g height (suc zero) h = refl
+one-row f g height (suc (suc zero)) h = refl
+one-row f g height (suc (suc (suc zero))) h = refl
+one-row f g height (suc (suc (suc (suc l)))) h = absurd (omega arith)
 
-  -- a pixel of row i, found in the samples
-  pub luma-found : lumaFrom samples (i * n + x * channels) ≡ lumaAt channels (rowOf n samples i) x
-  unfolding lumaFrom lumaAt
-  luma-found =
-      rw (sample-at (x * channels) (i * n + x * channels) (omega arith) (omega arith), sample-at (x * channels + 1) (i * n + x * channels + 1) (omega arith) (omega arith), sample-at (x * channels + 2) (i * n + x * channels + 2) (omega arith) (omega arith))
-      refl
+-- row i as its own part of the samples
+pub own-part : (n : ℕ) (samples : List ℕ) (i r : ℕ) → i ≡ r → take (i * n + n - i * n) (drop (i * n) samples) ≡ rowOf n samples r
+unfolding rowOf
+own-part n samples i r e = let m : i * n + n - i * n ≡ n = omega arith in rw (m, e) refl
 
-module _ (width height channels : ℕ) (samples : List ℕ) (g : ℕ) (some : 0 < width) (three : 3 ≤ channels) where
-  starts-at : (n l : ℕ) → l < 4 → one (cappedAt (4 * g) height * n) (cappedAt (4 * g + 1) height * n) (cappedAt (4 * g + 2) height * n) (cappedAt (4 * g + 3) height * n) l ≡ cappedAt (4 * g + l) height * n
-  unfolding one
-  starts-at n zero h = let e : 4 * g + 0 ≡ 4 * g = omega arith in rw e refl
-  starts-at n (suc zero) h = refl
-  starts-at n (suc (suc zero)) h = refl
-  starts-at n (suc (suc (suc zero))) h = refl
-  starts-at n (suc (suc (suc (suc l)))) h = absurd (omega arith)
+pub part-long : (n : ℕ) (samples : List ℕ) (a : ℕ) → a + n ≤ length samples → length (take (a + n - a) (drop a samples)) ≡ n
+part-long n samples a h = let m : a + n - a ≡ n = omega arith in rw m (length-take-le n (drop a samples) (omega (arith, length-drop a samples)))
 
-  -- the lumas found in the samples are those of the rows
-  pub line-found : (i j k m : ℕ) (line : List Float) → i ≡ cappedAt (4 * g) height → j ≡ cappedAt (4 * g + 1) height → k ≡ cappedAt (4 * g + 2) height → m ≡ cappedAt (4 * g + 3) height
-      → filled (beside (λ l x. lumaFrom samples (one (i * (width * channels)) (j * (width * channels)) (k * (width * channels)) (m * (width * channels)) l + x * channels))) (4 * width) line ≡ lumaLine width height channels samples g line
+module _ (width height channels : ℕ) (samples : List ℕ) (g : ℕ) (some : 0 < width) where
+  -- the lumas of the four rows are those of the picture's
+  pub line-found : (a b c d : List ℕ) (line : List Float) → let n = width * channels in a ≡ rowOf n samples (cappedAt (4 * g) height) → b ≡ rowOf n samples (cappedAt (4 * g + 1) height) → c ≡ rowOf n samples (cappedAt (4 * g + 2) height) → d ≡ rowOf n samples (cappedAt (4 * g + 3) height)
+      → filled (beside (λ l. lumaAt channels (one a b c d l))) (4 * width) line ≡ lumaLine width height channels samples g line
   unfolding lumaLine filled beside
-  line-found i j k m line I J K M =
-      let n = width * channels in
+  line-found a b c d line A B C D =
       ap (λ (xs : List Float). xs ++ drop (4 * width) line)
-      (tab-same _ _ (4 * width)
-      (λ q Q.
-      rw (I, J, K, M, starts-at n (q % 4) (omega arith))
-      (luma-found channels samples n (cappedAt (4 * g + q % 4) height) (q / 4) (omega (arith, pixel-fits (q / 4) channels width (omega arith))))))
+      (tab-same _ _ (4 * width) (λ q Q. rw (A, B, C, D, one-row (rowOf (width * channels) samples) g height (q % 4) (omega arith)) refl))
 
   lane-luma : (line₀ line : List Float) → line ≡ lumaLine width height channels samples g line₀ → (l x : ℕ) → l < 4 → x < width → lane line l x ≡ fourAt width height channels samples g l x
   unfolding lane lumaLine

@@ -7,11 +7,11 @@ use lib.ListN.{length, getD, length-set}
 use lib.Ieee.{Float, nan}
 use denote.Ref.{now}
 use Rattle.seq.specs.Tab.{getD-tab}
 use Rattle.resample.specs.Resampled.{across}
-use Rattle.resample.specs.Lanes.{lane, Behind, behind-more, behind-all}
+use Rattle.lanes.specs.Lanes.{lane, Behind, behind-more, behind-all}
 use borrow.Author.Needs.{needs}
-use Rattle.resample.proofs.four.across_four.Statement.{statement}
-use Rattle.resample.proofs.four.across_four.Tie as tie
+use Rattle.lanes.proofs.across_four.Statement.{statement}
+use Rattle.lanes.proofs.across_four.Tie as tie
 
 abbrev Inv-loop : tie.InvT-loop
 Inv-loop width offsets index weight line out₀ x₀ out x = (x ≤ 256) × (length out ≡ length out₀) × Behind nan (λ l x. across width 256 (lane line l) x) x out

@@ -2,8 +2,8 @@
 use native.Mathlib.Omega.{arith}
 use lib.ListN.{length-set}
 use borrow.Author.Needs.{needs}
-use Rattle.resample.proofs.four.put_four.Statement.{statement}
-use Rattle.resample.proofs.four.put_four.Tie as tie
+use Rattle.lanes.proofs.put_four.Statement.{statement}
+use Rattle.lanes.proofs.put_four.Tie as tie
 
 mul-s : tie.Need-mul-s
 mul-s c = search needs

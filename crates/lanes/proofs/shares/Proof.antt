@@ -5,10 +5,10 @@ use native.Mathlib.Omega.{arith}
 use lib.ListN.{length}
 use denote.Ref.{now}
 use Rattle.seq.specs.Tab.{filled, filled-none, filled-more, filled-all}
-use Rattle.resample.specs.Lanes.{shareAt}
+use Rattle.lanes.specs.Lanes.{shareAt}
 use borrow.Author.Needs.{needs}
-use Rattle.resample.proofs.four.shares.Statement.{statement}
-use Rattle.resample.proofs.four.shares.Tie as tie
+use Rattle.lanes.proofs.shares.Statement.{statement}
+use Rattle.lanes.proofs.shares.Tie as tie
 
 abbrev Inv-loop : tie.InvT-loop
 Inv-loop out₀ weight k₀ out k = (k ≤ 768) × (length out ≡ length out₀) × (out ≡ filled shareAt k out₀)

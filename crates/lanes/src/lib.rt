@@ -1,17 +1,16 @@
-// Four rows at once. Their lumas stand side by side in a line, that of pixel x of row l in place 4 x + l, so that one
-// instruction serves four sums, each in its own order; and a luma is put together from products that are made once for
-// a picture.
+// Four rows at once, for the crate `downsample`. Their lumas stand side by side in a line, that of pixel x of row l in
+// place 4 x + l, so that one instruction serves four sums, each in its own order; and a luma is put together from
+// products that are made once for a picture.
 ghost use mathlib.Core.Path.{_≡_};
 ghost use Prim.Native.Nat.{_+_, _*_, _≤_, _<_};
 ghost use lib.ListN.{length, getD, set};
 ghost use lib.Ieee.{nan};
 ghost use Rattle.seq.specs.Tab.{tab, filled};
 ghost use Rattle.seq.specs.Lines.{lines};
 ghost use Rattle.resample.specs.Resampled.{across};
-ghost use Rattle.resample.specs.Samples.{Sized};
+ghost use Rattle.resample.specs.Samples.{Sized, lumaFrom, lumaAt};
 ghost use Rattle.resample.specs.Tables.{Tables};
-ghost use Rattle.resample.specs.Lanes.{beside, one, lane, shareAt, lumaFrom, cappedAt, lumaLine, narrowFour};
-use crate::number::wide;
+ghost use Rattle.lanes.specs.Lanes.{beside, one, lane, shareAt, cappedAt, lumaLine, narrowFour};
 
 // What each byte adds to the luma as a red sample, then as a green one, then as a blue one.
 pub fn shares(out: &mut [f32])
@@ -31,14 +30,33 @@ fn share_of(shares: &[f32], at: usize, v: u8) -> f32
     shares[at + v as usize]
 }
 
-// The luma of the pixel whose samples start at place p.
-fn luma_from(samples: &[u8], p: usize, shares: &[f32]) -> f32
-    requires { ⌜ (now shares ≡ tab shareAt 768) × (p + 3 ≤ length (now samples)) ⌝ }
-    ensures { λ r. ⌜ r ≡ lumaFrom (now (samples .entry)) p ⌝ }
+// The luma of the pixel of a row whose samples start at place p.
+fn luma_from(row: &[u8], p: usize, shares: &[f32]) -> f32
+    requires { ⌜ (now shares ≡ tab shareAt 768) × (p + 3 ≤ length (now row)) ⌝ }
+    ensures { λ r. ⌜ r ≡ lumaFrom (now (row .entry)) p ⌝ }
 {
-    share_of(shares, 0, samples[p])
-        + share_of(shares, 256, samples[p + 1])
-        + share_of(shares, 512, samples[p + 2])
+    share_of(shares, 0, row[p])
+        + share_of(shares, 256, row[p + 1])
+        + share_of(shares, 512, row[p + 2])
+}
+
+fn luma_row(row: &[u8], channels: usize, shares: &[f32], out: &mut [f32])
+    requires { ⌜ (now shares ≡ tab shareAt 768) × (3 ≤ channels) × (length (now row) ≡ length (now out) * channels) ⌝ }
+    ensures { λ _. ⌜ now (out .exit) ≡ tab (lumaAt channels (now (row .entry))) (length (now (out .entry))) ⌝ }
+{
+    for x in 0..out.len() {
+        out[x] = luma_from(row, x * channels, shares);
+    }
+}
+
+// The luma of a row of pixels: its samples are the picture's from the row's first to its last.
+pub fn luma(row: &[u8], channels: usize, out: &mut [f32])
+    requires { ⌜ (3 ≤ channels) × (channels ≤ 4) × (length (now row) ≡ length (now out) * channels) × (length (now out) ≤ 8192) ⌝ }
+    ensures { λ _. ⌜ now (out .exit) ≡ tab (lumaAt channels (now (row .entry))) (length (now (out .entry))) ⌝ }
+{
+    let mut products = [0.0f32; 768];
+    shares(&mut products);
+    luma_row(row, channels, &products, out);
 }
 
 // Four values, the first in place q and each `step` places behind the one before it.
@@ -52,32 +70,38 @@ fn put_four(s: &mut [f32], q: usize, step: usize, t: f32, u: f32, v: f32, w: f32
     s[q + 3 * step] = w;
 }
 
-// The luma of the four rows whose samples start at the places a, b, c and d.
+// The luma of four rows of pixels.
 fn luma_four(
-    a: usize,
-    b: usize,
-    c: usize,
-    d: usize,
+    a: &[u8],
+    b: &[u8],
+    c: &[u8],
+    d: &[u8],
     width: usize,
     channels: usize,
-    samples: &[u8],
     shares: &[f32],
     line: &mut [f32],
 )
-    requires { ⌜ (now shares ≡ tab shareAt 768) × (3 ≤ channels) × (4 * width ≤ length (now line)) × (a + width * channels ≤ length (now samples)) × (b + width * channels ≤ length (now samples)) × (c + width * channels ≤ length (now samples)) × (d + width * channels ≤ length (now samples)) ⌝ }
-    ensures { λ _. ⌜ now (line .exit) ≡ filled (beside (λ l x. lumaFrom (now (samples .entry)) (one a b c d l + x * channels))) (4 * width) (now (line .entry)) ⌝ }
+    requires { ⌜ (now shares ≡ tab shareAt 768) × (3 ≤ channels) × (4 * width ≤ length (now line)) × (length (now a) ≡ width * channels) × (length (now b) ≡ width * channels) × (length (now c) ≡ width * channels) × (length (now d) ≡ width * channels) ⌝ }
+    ensures { λ _. ⌜ now (line .exit) ≡ filled (beside (λ l. lumaAt channels (one (now (a .entry)) (now (b .entry)) (now (c .entry)) (now (d .entry)) l))) (4 * width) (now (line .entry)) ⌝ }
 {
     for x in 0..width {
         let p = x * channels;
-        let t = luma_from(samples, a + p, shares);
-        let u = luma_from(samples, b + p, shares);
-        let v = luma_from(samples, c + p, shares);
-        let w = luma_from(samples, d + p, shares);
+        let t = luma_from(a, p, shares);
+        let u = luma_from(b, p, shares);
+        let v = luma_from(c, p, shares);
+        let w = luma_from(d, p, shares);
         put_four(line, 4 * x, 1, t, u, v, w);
     }
 }
 
-// Value x of each of the four rows: as `rows::value_across` makes it, one sum beside the other.
+// A number of the tables as an index.
+fn wide(x: u16) -> usize
+    ensures { λ r. ⌜ r ≡ x ⌝ }
+{
+    x as usize
+}
+
+// Value x of each of the four rows: as `resample::rows` makes it, one sum beside the other.
 fn values_across(
     x: usize,
     width: usize,
@@ -157,6 +181,15 @@ pub fn narrow_four(
     let b = capped(4 * g + 1, height) * n;
     let c = capped(4 * g + 2, height) * n;
     let d = capped(4 * g + 3, height) * n;
-    luma_four(a, b, c, d, width, channels, samples, shares, line);
+    luma_four(
+        &samples[a..a + n],
+        &samples[b..b + n],
+        &samples[c..c + n],
+        &samples[d..d + n],
+        width,
+        channels,
+        shares,
+        line,
+    );
     across_four(width, offsets, index, weight, line, out);
 }

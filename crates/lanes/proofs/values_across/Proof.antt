@@ -8,13 +8,12 @@ use denote.Ref.{now}
 use Rattle.seq.specs.Tab.{tab}
 use Rattle.float.specs.Base.{zero-}
 use Rattle.window.specs.Taps.{start, start-rises}
 use Rattle.resample.specs.Resampled.{across}
 use Rattle.resample.specs.Tables.{Tables, soFar, offset-at, place-fits, from-inside, none-yet, one-more, all-there}
-use Rattle.resample.specs.Lanes.{lane}
+use Rattle.lanes.specs.Lanes.{lane}
 use borrow.Author.Needs.{needs}
-use Rattle.resample.proofs.four.values_across.Statement.{statement}
-use Rattle.resample.proofs.four.values_across.Tie as tie
-use Rattle.resample.proofs.number.wide.Reads as wide-reads
+use Rattle.lanes.proofs.values_across.Statement.{statement}
+use Rattle.lanes.proofs.values_across.Tie as tie
 
 abbrev Inv-loop : tie.InvT-loop
 Inv-loop x width offsets index weight line a e t₀ u₀ v₀ w₀ n₀ t u v w n =
