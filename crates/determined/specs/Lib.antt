@@ -19,6 +19,8 @@ pub mod Lanes
 pub mod Downsample
 pub mod Upsample
 pub mod Picture
+pub mod Carrier
+pub mod Tally
 pub mod Resilient
 pub mod Face
 pub mod Vaikelomu

@@ -7,6 +7,3 @@ write-one κs a x y p q i = (one (p .0) (q .0) i, (one (p .1 .0) (q .1 .0) i, (t
 
 pub read-one : Determined resilient.read.ended resilient.read.Reads.Post
 read-one κs a x y p q i = (one (p .0) (q .0) i, (tt, (tt, (tt, (one (p .1) (q .1) i, tt)))))
-
-pub read-votes-one : Determined resilient.read_votes.ended resilient.read_votes.Reads.Post
-read-votes-one κs a x y p q i = (one p q i, x .1)

@@ -1,4 +1,4 @@
-// From a picture's samples to the 256 x 256 plane of luma, for the crate `resilient`. A plane row reads up to 64 rows of
+// From a picture's samples to the 256 x 256 plane of luma, for the crate `carrier`. A plane row reads up to 64 rows of
 // the picture, and the next plane row half of them again. Rows are made where they are read, four at a time, brought to
 // 256 values each, and 64 are kept as long as the windows that follow read them: row i in place i mod 64. So no picture
 // of floats is needed.

@@ -12,7 +12,7 @@ use Rattle.record.specs.declared.Key.{Key}
 use Rattle.record.specs.declared.Reading.{Reading}
 use Rattle.record.specs.Record.{refused}
 use Rattle.record.specs.Answers.{readAs}
-use Rattle.resilient.specs.Resilient.{blocks, votesReading}
+use Rattle.tally.specs.Tally.{blocks, votesReading}
 
 -- vote k is the f32 whose pattern is word k of the bytes, the lowest byte first
 unfoldable pub voteAt : List ℕ → ℕ → Float

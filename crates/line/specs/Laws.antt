@@ -28,7 +28,7 @@ use Rattle.record.specs.declared.Reading.{Reading}
 use Rattle.record.specs.Record.{short, saltAt, lengthAt, textAt, outerAt, numberAt, intact, covered, Outcome, refused, gives, textIn, sound, insideOf, parsedOf}
 use Rattle.record.specs.Answers.{readAs}
 use Rattle.record.specs.Laws.{sound-length}
-use Rattle.resilient.specs.Resilient.{blocks, goodVotes, votesOutcome, votesReading}
+use Rattle.tally.specs.Tally.{blocks, goodVotes, votesOutcome, votesReading}
 use Rattle.line.specs.Input.{voteAt, noKey, bytesReading}
 use Rattle.line.specs.Line.{digit, digits, decimal, pairs, hex, room, lineAs, Lends}
 

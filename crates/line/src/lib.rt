@@ -10,7 +10,7 @@ ghost use mathlib.Core.Path.{_≡_};
 ghost use Prim.Native.Nat.{_≤_};
 ghost use lib.ListN.{length};
 ghost use Rattle.seq.specs.Tab.{tab};
-ghost use Rattle.resilient.specs.Resilient.{blocks};
+ghost use Rattle.tally.specs.Tally.{blocks};
 ghost use Rattle.line.specs.Input.{voteAt, bytesReading};
 ghost use Rattle.line.specs.Line.{textLine, refusedLine, lineOf, lineAs, Lends};
 
@@ -52,7 +52,7 @@ pub fn read_bytes(bytes: &[u8]) -> Reading
         given: false,
         bytes: [0u8; 32],
     };
-    resilient::read_votes(&all, key)
+    tally::read_votes(&all, key)
 }
 
 // The line of a text of at most 32 bytes.

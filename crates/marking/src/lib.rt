@@ -1,4 +1,4 @@
-// The mark on the 256 x 256 plane, for the crate `resilient`: the change that puts a bit into each of its 1,024 blocks,
+// The mark on the 256 x 256 plane, for the crate `carrier`: the change that puts a bit into each of its 1,024 blocks,
 // and each block's vote on the bit that it carries. The promises are equations over the definitions in
 // specs/Marking.antt, for every value; specs/Finite.antt has the bounds for the plane of a picture.
 use block::block_vote;

@@ -692,12 +692,9 @@ fn with_keys(votes: &[f32]) -> Tally {
         bytes: [0; 32],
     };
     let mut t = none();
-    t = count(t, says(resilient::read_votes(votes, right), 0, 0));
-    t = count(t, says(resilient::read_votes(votes, wrong), 13, 0));
-    count(
-        t,
-        says(resilient::read_votes(votes, no_key()), 11, 0xeec1_11a4),
-    )
+    t = count(t, says(tally::read_votes(votes, right), 0, 0));
+    t = count(t, says(tally::read_votes(votes, wrong), 13, 0));
+    count(t, says(tally::read_votes(votes, no_key()), 11, 0xeec1_11a4))
 }
 
 // The file has a digit for each block: the bit that the Rust lays there of the text's record under the first key.

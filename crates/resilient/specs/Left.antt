@@ -9,13 +9,14 @@ use Rattle.record.specs.declared.Answer.{Answer}
 use Rattle.record.specs.declared.Answer.the-variants.{Done, Refused}
 use Rattle.record.specs.declared.Key.{Key}
 use Rattle.record.specs.declared.Lock.{Lock}
-use Rattle.record.specs.Record.{short, refused, parsedOf}
+use Rattle.record.specs.Record.{refused}
 use Rattle.record.specs.Answers.{readAs}
 use Rattle.record.specs.Theorems.{refused-not-done}
-use Rattle.convolution.specs.Demand3.{decodedFrom}
 use Rattle.picture.specs.declared.Picture.{Picture}
 use Rattle.picture.specs.Admission.{readAdmission}
-use Rattle.resilient.specs.Resilient.{ifDone, cleared, bitsOf, markedSamples, writeAnswer, writtenOf, pictureVotes, readingFrom, readingOf}
+use Rattle.carrier.specs.Carrier.{cleared, markedSamples, pictureVotes}
+use Rattle.tally.specs.Tally.{textOf}
+use Rattle.resilient.specs.Resilient.{ifDone, bitsOf, writeAnswer, writtenOf, readingFrom, readingOf}
 
 module _ {A : Type 0} (new lent : A) where
   if-done : (a : Answer) → a ≡ Done → ifDone a new lent ≡ new
@@ -45,11 +46,11 @@ module _ (text : List ℕ) (lock : Lock) (p : Picture) (samples : List ℕ) (wor
 
 module _ (key : Key) (p : Picture) (samples : List ℕ) (work : List Float) where
   pub read-done : readAdmission p (length samples) (length work) ≡ Done
-      → (readingOf key p samples work .reading ≡ readAs (parsedOf short (decodedFrom (pictureVotes p samples)) key)) × (readingOf key p samples work .work ≡ cleared work)
+      → (readingOf key p samples work .reading ≡ textOf (pictureVotes p samples) key) × (readingOf key p samples work .work ≡ cleared work)
   unfolding readingOf readingFrom
   read-done e = (done _ e, if-done _ _ _ e)
     where
-      done : (a : Answer) → a ≡ Done → readingFrom a (pictureVotes p samples) key ≡ readAs (parsedOf short (decodedFrom (pictureVotes p samples)) key)
+      done : (a : Answer) → a ≡ Done → readingFrom a (pictureVotes p samples) key ≡ textOf (pictureVotes p samples) key
       done Done e = refl
       done (Refused r) e = absurd (refused-not-done _ e)
 

@@ -1,4 +1,4 @@
-// From a change of the 256 x 256 plane to a picture's samples, for the crate `resilient`. A row of the picture reads at
+// From a change of the 256 x 256 plane to a picture's samples, for the crate `carrier`. A row of the picture reads at
 // most two rows of the change, and the rows that follow the same two or the next: two rows, brought to the picture's
 // width, are kept, row k in place k mod 2.
 ghost use mathlib.Core.Path.{_≡_};

@@ -7,7 +7,8 @@ use lib.Ieee.{Float}
 use Rattle.record.specs.declared.Reading.{Reading}
 use Rattle.face.specs.Face.{lockOf, keyOf}
 use Rattle.picture.specs.declared.Picture.{Picture}
-use Rattle.resilient.specs.Resilient.{Written, writtenOf, Read, readingOf, votesReading}
+use Rattle.tally.specs.Tally.{votesReading}
+use Rattle.resilient.specs.Resilient.{Written, writtenOf, Read, readingOf}
 
 -- C's flag: every number but 0 says yes
 abbrev pub yes : ℕ → Bool

@@ -122,6 +122,6 @@ pub extern "C" fn vaikelomu_read_votes(
     ensures length { λ _. ⌜ now (length .exit) ≡ votesFor (now (votes .entry)) keyed (now (key .entry)) .length ⌝ }
     ensures number { λ _. ⌜ now (given .exit) ≡ givenFor (votesFor (now (votes .entry)) keyed (now (key .entry)) .answer) ⌝ }
 {
-    let reading = resilient::read_votes(votes, key_of(keyed, key));
+    let reading = tally::read_votes(votes, key_of(keyed, key));
     tell(reading, text, length, given)
 }

@@ -6,11 +6,9 @@ use lib.ListN.{length}
 use lib.Ieee.{Float}
 use denote.Ref.{now}
 use Rattle.record.specs.declared.Answer.the-variants.{Done}
-use Rattle.record.specs.Record.{short, parsedOf}
-use Rattle.record.specs.Answers.{readAs}
-use Rattle.convolution.specs.Demand3.{decodedFrom}
 use Rattle.picture.specs.Admission.{readAdmission}
 use Rattle.picture.specs.Admitted.{read-admitted}
+use Rattle.tally.specs.Tally.{textOf}
 use Rattle.resilient.specs.Sized.{sized, plane-room}
 use Rattle.resilient.specs.Left.{read-done, read-refused}
 use borrow.Author.Needs.{needs}
@@ -36,15 +34,15 @@ answered c = c .may-read .ensures
 done : (c : tie.After-enum-told) → let start = c .before .before .before .before .before .args in readAdmission (start .picture) (length (now (start .samples))) (length (now (start .work))) ≡ Done
 done c = sym (answered (c .before .before)) ∙ c .enum-told .given .1
 
-votes-of-requires : tie.Need-votes-of-requires
-votes-of-requires c κs =
+votes-requires : tie.Need-votes-requires
+votes-requires c κs =
     let told = c .before in
     let start = told .before .before .before .before .before .args in
     let may = read-admitted (start .picture) (length (now (start .samples))) (length (now (start .work))) (done told) in
     (sized 1 (start .picture) (now (start .samples)) (length (now (start .work))) (may .2) (may .0) (may .1), plane-room 1 (start .picture) (now (start .samples)) (length (now (start .work))) (may .2) (lit≤ tt))
 
-decode-requires : tie.Need-decode-requires
-decode-requires c κs = search needs
+text-of-requires : tie.Need-text-of-requires
+text-of-requires c κs = search needs
 
 returns : tie.Need-returns
 returns c =
@@ -60,8 +58,8 @@ returns-2 c =
     let told = c .before .before .before .before .before .before in
     let start = told .before .before .before .before .before .args in
     let left = read-done (start .key) (start .picture) (now (start .samples)) (now (start .work)) (done told) in
-    let votes = c .before .before .before .before .votes-of .ensures in
-    (c .decode .ensures ∙ (ap (λ (v : List Float). readAs (parsedOf short (decodedFrom v) (start .key))) (votes .0) ∙ sym (left .0)), votes .1 ∙ sym (left .1))
+    let votes = c .before .before .before .before .votes .ensures in
+    (c .text-of .ensures ∙ (ap (λ (v : List Float). textOf v (start .key)) (votes .0) ∙ sym (left .0)), votes .1 ∙ sym (left .1))
 
 pub read-spec : {M : Type 1} → statement M
 read-spec =
@@ -71,8 +69,8 @@ read-spec =
     enum-known-answer
     not-read-requires
     enum-told
-    votes-of-requires
-    decode-requires
+    votes-requires
+    text-of-requires
     returns
     same-length
     returns-2)

@@ -12,7 +12,8 @@ use Rattle.record.specs.Theorems.{built-done}
 use Rattle.layout.specs.Places.{blockBits}
 use Rattle.convolution.specs.Ccsds131.{encodeOf}
 use Rattle.picture.specs.Admitted.{first-done, write-admitted}
-use Rattle.resilient.specs.Resilient.{bitsOf, markedSamples, writeAnswer, writtenOf}
+use Rattle.carrier.specs.Carrier.{markedSamples}
+use Rattle.resilient.specs.Resilient.{bitsOf, writeAnswer, writtenOf}
 use Rattle.resilient.specs.Sized.{sized, plane-room}
 use Rattle.resilient.specs.Left.{written-done, written-refused}
 use borrow.Author.Needs.{needs}

@@ -4,7 +4,7 @@ use mathlib.Core.Path.{ap, _∙_}
 use denote.Ref.{now}
 use Rattle.record.specs.declared.Key.{Key}
 use Rattle.record.specs.declared.Reading.{Reading}
-use Rattle.resilient.specs.Resilient.{votesReading}
+use Rattle.tally.specs.Tally.{votesReading}
 use Rattle.face.specs.Face.{codeOf, givenFor}
 use Rattle.vaikelomu.proofs.vaikelomu_read_votes.Statement.{statement}
 use Rattle.vaikelomu.proofs.vaikelomu_read_votes.Tie as tie

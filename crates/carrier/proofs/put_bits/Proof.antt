@@ -1,9 +1,9 @@
 -- What the three calls promise, one in the other. Assumes nothing.
 use mathlib.Core.Path.{refl}
 use borrow.Author.Needs.{needs}
-use Rattle.resilient.specs.Resilient.{markedSamples}
-use Rattle.resilient.proofs.put_bits.Statement.{statement}
-use Rattle.resilient.proofs.put_bits.Tie as tie
+use Rattle.carrier.specs.Carrier.{markedSamples}
+use Rattle.carrier.proofs.put_bits.Statement.{statement}
+use Rattle.carrier.proofs.put_bits.Tie as tie
 
 plane-requires : tie.Need-plane-requires
 plane-requires c κs = search needs

@@ -7,8 +7,8 @@ use native.Mathlib.Nat.{zero-add}
 use denote.Ref.{now}
 use lib.ListN.{length, drop}
 use lib.Seq.{paste, take-length, drop-length}
-use Rattle.resilient.proofs.every_block.Statement.{statement}
-use Rattle.resilient.proofs.every_block.Tie as tie
+use Rattle.tally.proofs.every_block.Statement.{statement}
+use Rattle.tally.proofs.every_block.Tie as tie
 
 over-all : {A : Type 0} (xs ys : List A) → length xs ≡ length ys → paste ys 0 xs (length xs) ≡ xs
 over-all xs ys e =

@@ -4,9 +4,9 @@ use borrow.Author.Tests.{eq-eqb, ne-eqb, lt-ltb, le-ltb}
 use native.Mathlib.Omega.{arith}
 use lib.ListN.{length}
 use denote.Ref.{now}
-use Rattle.resilient.specs.Resilient.{blocks, votesOutcome, votesReading}
-use Rattle.resilient.proofs.read_votes.Statement.{statement}
-use Rattle.resilient.proofs.read_votes.Tie as tie
+use Rattle.tally.specs.Tally.{blocks, votesOutcome, votesReading}
+use Rattle.tally.proofs.read_votes.Statement.{statement}
+use Rattle.tally.proofs.read_votes.Tie as tie
 
 not-read-requires : tie.Need-not-read-requires
 not-read-requires c κs = search needs
@@ -34,8 +34,8 @@ returns-2 c =
 every-block-requires : tie.Need-every-block-requires
 every-block-requires c κs = search needs
 
-decode-requires : tie.Need-decode-requires
-decode-requires c κs = search needs
+text-of-requires : tie.Need-text-of-requires
+text-of-requires c κs = search needs
 
 returns-3 : tie.Need-returns-3
 unfolding votesReading votesOutcome
@@ -44,7 +44,7 @@ returns-3 c =
     let found = all .before .before in
     let many = found .before in
     let votes = now (many .before .before .args .votes) in
-    rw (c .decode .ensures, all .every-block .ensures, ← found .first-bad .ensures, eq-eqb (length votes) blocks (many .if1 .left), le-ltb (found .first-bad .result) blocks (omega arith))
+    rw (c .text-of .ensures, all .every-block .ensures, ← found .first-bad .ensures, eq-eqb (length votes) blocks (many .if1 .left), le-ltb (found .first-bad .result) blocks (omega arith))
 
 pub read-votes-spec : {M : Type 1} → statement M
 read-votes-spec =
@@ -56,5 +56,5 @@ read-votes-spec =
     not-read-requires-2
     returns-2
     every-block-requires
-    decode-requires
+    text-of-requires
     returns-3)

@@ -8,8 +8,8 @@ use lib.Ieee.{ofBits}
 use denote.Ref.{now}
 use Rattle.float.specs.Base.{zero+}
 use borrow.Author.Needs.{needs}
-use Rattle.resilient.proofs.votes_of.Statement.{statement}
-use Rattle.resilient.proofs.votes_of.Tie as tie
+use Rattle.carrier.proofs.votes.Statement.{statement}
+use Rattle.carrier.proofs.votes.Tie as tie
 
 sub-plane-votes : tie.Need-sub-plane-votes
 sub-plane-votes c = search needs
@@ -39,8 +39,8 @@ returns c =
     let long : length (plane ++ drop 65536 work) ≡ length work = omega (arith, length-append plane (drop 65536 work), put .ensures .0, length-drop 65536 work, start .pre .1) in
     (put .ensures .1, c .before .before .zero-floats .ensures ∙ ap (λ (n : ℕ). replicate n zero+) long)
 
-pub votes-of-spec : {M : Type 1} → statement M
-votes-of-spec =
+pub votes-spec : {M : Type 1} → statement M
+votes-spec =
     tie.close
     (tie.spec
     sub-plane-votes

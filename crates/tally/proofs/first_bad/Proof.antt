@@ -12,9 +12,9 @@ use lib.ListN.{length, getD, drop}
 use lib.Seq.{drop-cons, drop-length}
 use lib.Ieee.{Float, nan}
 use Rattle.float.specs.Calls.{inUnit}
-use Rattle.resilient.specs.Resilient.{goodVotes}
-use Rattle.resilient.proofs.first_bad.Statement.{statement}
-use Rattle.resilient.proofs.first_bad.Tie as tie
+use Rattle.tally.specs.Tally.{goodVotes}
+use Rattle.tally.proofs.first_bad.Statement.{statement}
+use Rattle.tally.proofs.first_bad.Tie as tie
 
 module _ (votes : List Float) (i : ℕ) (h : i < length votes) where
   stops : inUnit (getD votes i nan) ≡ false → goodVotes (drop i votes) ≡ 0

@@ -1,9 +1,9 @@
 -- What the two calls promise, one in the other. Assumes nothing.
 use mathlib.Core.Path.{refl}
 use borrow.Author.Needs.{needs}
-use Rattle.resilient.specs.Resilient.{pictureVotes}
-use Rattle.resilient.proofs.plane_votes.Statement.{statement}
-use Rattle.resilient.proofs.plane_votes.Tie as tie
+use Rattle.carrier.specs.Carrier.{pictureVotes}
+use Rattle.carrier.proofs.plane_votes.Statement.{statement}
+use Rattle.carrier.proofs.plane_votes.Tie as tie
 
 plane-requires : tie.Need-plane-requires
 plane-requires c κs = search needs

@@ -1,8 +1,8 @@
 -- What the three calls promise, one in the other. Assumes nothing.
 use borrow.Author.Needs.{needs}
 use Rattle.convolution.specs.Demand3.{decodedFrom}
-use Rattle.resilient.proofs.decode.Statement.{statement}
-use Rattle.resilient.proofs.decode.Tie as tie
+use Rattle.tally.proofs.text_of.Statement.{statement}
+use Rattle.tally.proofs.text_of.Tie as tie
 
 gather-requires : tie.Need-gather-requires
 gather-requires c κs = search needs
@@ -20,5 +20,5 @@ returns c =
     let gathered = decoded .before .before in
     rw (c .parse-record .ensures, decoded .viterbi .ensures, gathered .gather .ensures)
 
-pub decode-spec : {M : Type 1} → statement M
-decode-spec = tie.close (tie.spec gather-requires viterbi-requires parse-record-requires returns)
+pub text-of-spec : {M : Type 1} → statement M
+text-of-spec = tie.close (tie.spec gather-requires viterbi-requires parse-record-requires returns)

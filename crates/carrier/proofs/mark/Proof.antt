@@ -8,8 +8,8 @@ use lib.Ieee.{ofBits}
 use denote.Ref.{now}
 use Rattle.float.specs.Base.{zero+}
 use borrow.Author.Needs.{needs}
-use Rattle.resilient.proofs.mark.Statement.{statement}
-use Rattle.resilient.proofs.mark.Tie as tie
+use Rattle.carrier.proofs.mark.Statement.{statement}
+use Rattle.carrier.proofs.mark.Tie as tie
 
 sub-put-bits : tie.Need-sub-put-bits
 sub-put-bits c = search needs
