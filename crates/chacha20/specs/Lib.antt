@@ -1,6 +1,5 @@
 pub mod Rfc8439
 pub mod Examples
-pub mod Apply
 pub mod Lists
+pub mod Order
 pub mod Blocks
-pub mod Laws

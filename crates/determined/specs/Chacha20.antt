@@ -8,8 +8,11 @@ quarter-one κs a x y p q i = (one p q i, x .1)
 pub little-endian-one : Determined chacha20.little_endian.ended chacha20.little_endian.Reads.Post
 little-endian-one κs a x y p q i = (one p q i, x .1)
 
+pub first-state-one : Determined chacha20.first_state.ended chacha20.first_state.Reads.Post
+first-state-one κs a x y p q i = (one p q i, x .1)
+
+pub block-from-one : Determined chacha20.block_from.ended chacha20.block_from.Reads.Post
+block-from-one κs a x y p q i = (one p q i, x .1)
+
 pub block-one : Determined chacha20.block.ended chacha20.block.Reads.Post
 block-one κs a x y p q i = (one p q i, x .1)
-
-pub apply-one : Determined chacha20.apply.ended chacha20.apply.Reads.Post
-apply-one κs a x y p q i = (one (p .0) (q .0) i, (tt, (tt, (tt, (one (p .1) (q .1) i, tt)))))

@@ -4,6 +4,7 @@ pub mod Refusal
 pub mod Float
 pub mod Crc32
 pub mod Chacha20
+pub mod Keystream
 pub mod Utf8
 pub mod Record
 pub mod Shuffle

@@ -12,7 +12,7 @@ use borrow.Author.Tests.{eq-eqb, leb-true}
 use Rattle.seq.specs.Part.{onPart, length-onPart}
 use Rattle.crc32.specs.Ieee8023.{crcOf}
 use Rattle.crc32.specs.Bytes.{crc-lt}
-use Rattle.chacha20.specs.Laws.{length-encrypted, encrypted-twice}
+use Rattle.keystream.specs.Laws.{length-encrypted, encrypted-twice}
 use Rattle.record.specs.declared.Lock.{Lock}
 use Rattle.record.specs.Record.{Profile, innerAt, outerAt, lengthAt, bigEndian, numberAt, summed, intact, covered, headOf, laid, locked, sound}
 

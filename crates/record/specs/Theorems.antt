@@ -9,9 +9,9 @@ use lib.ListN.{length, getD, take, replicate}
 use borrow.Author.Tests.{eq-eqb, ne-eqb, eqb-false, le-leb, leb-true}
 use Rattle.refusal.specs.declared.Refusal.{Refusal}
 use Rattle.refusal.specs.declared.Refusal.the-variants.{TextTooLong, TextNotUtf8, NoWatermark, PasswordRequired, Damaged, WrongPasswordOrDamaged}
-use Rattle.chacha20.specs.declared.Applied.the-variants.{Next}
-use Rattle.chacha20.specs.Apply.{appliedOf}
-use Rattle.chacha20.specs.Laws.{applied-next}
+use Rattle.keystream.specs.declared.Applied.the-variants.{Next}
+use Rattle.keystream.specs.Apply.{appliedOf}
+use Rattle.keystream.specs.Laws.{applied-next}
 use Rattle.utf8.specs.Rfc3629.{wellFormed}
 use Rattle.utf8.specs.Counted.{counted}
 use Rattle.utf8.specs.Texts.{wellFormed-counted}

@@ -11,7 +11,7 @@ ghost use Prim.Native.Nat.{_≤_};
 ghost use lib.Dec.{eqb, leb};
 ghost use lib.ListN.{length, getD, replicate};
 ghost use Rattle.chacha20.specs.Rfc8439.{encrypted};
-ghost use Rattle.chacha20.specs.Apply.{leftAt};
+ghost use Rattle.keystream.specs.Apply.{leftAt};
 ghost use Rattle.record.specs.Record.{Outcome, short, size, covered, locked, headOf, laid, recordOf, builtOf, zeros, sound, insideOf, parsedOf};
 ghost use Rattle.record.specs.Answers.{builtAs, readAs};
 
@@ -73,7 +73,7 @@ fn apply_cipher(key: &[u8; 32], bytes: &mut [u8])
     ensures { λ _. ⌜ now (bytes .exit) ≡ encrypted (now (key .entry)) (replicate 12 0) 0 (now (bytes .entry)) ⌝ }
 {
     let nonce = [0u8; 12];
-    chacha20::apply(key, &nonce, 0, bytes);
+    keystream::apply(key, &nonce, 0, bytes);
 }
 
 // Length to inner CRC put under a key, or taken from under it.

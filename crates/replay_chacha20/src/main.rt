@@ -1,6 +1,6 @@
 // Runs the vectors of RFC 8439 and the end of the keystream through `chacha20`, and says of each
 // whether the answer and the bytes are the ones expected.
-use chacha20::Applied;
+use keystream::Applied;
 use libc::STDOUT_FILENO;
 ghost use Prim.Native.Nat.{_<_};
 
@@ -118,9 +118,9 @@ fn there_and_back(
     let from = 64 * (counter as u64);
     let next = from + message.len() as u64;
     seq::copy_bytes(message, room, 0);
-    let there = chacha20::apply(key, nonce, from, room);
+    let there = keystream::apply(key, nonce, from, room);
     let encrypted = shows(expected, room);
-    chacha20::apply(key, nonce, from, room);
+    keystream::apply(key, nonce, from, room);
     encrypted && check::same(message, room) && is_next(there, next)
 }
 
@@ -151,7 +151,7 @@ const END: u64 = 1 << 38;
 fn request(from: u64, bytes: &mut [u8]) -> Applied {
     let key = key_of(b"000102030405060708090a0b0c0d0e0f101112131415161718191a1b1c1d1e1f");
     let nonce = nonce_of(b"");
-    chacha20::apply(&key, &nonce, from, bytes)
+    keystream::apply(&key, &nonce, from, bytes)
 }
 
 fn zeros() -> [u8; 64] {

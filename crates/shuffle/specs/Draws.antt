@@ -10,8 +10,8 @@ use borrow.Author.Tests.{le-leb, lt-leb, lt-ltb, le-ltb}
 use lib.Dec.{leb, ltb}
 use lib.ListN.{getD, replicate}
 use Rattle.seq.specs.Tab.{tab}
-use Rattle.chacha20.specs.Apply.{leftAt, bytesAfter}
-use Rattle.chacha20.specs.Laws.{after-next, encrypted-zeros}
+use Rattle.keystream.specs.Apply.{leftAt, bytesAfter}
+use Rattle.keystream.specs.Laws.{after-next, encrypted-zeros}
 use Rattle.shuffle.specs.declared.Drawn.{Drawn}
 use Rattle.shuffle.specs.declared.Drawn.the-variants.{Found, End}
 use Rattle.shuffle.specs.Shuffle.{valueAt, limit, orAgain, drawn, drawsFrom, streamOf}

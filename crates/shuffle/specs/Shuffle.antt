@@ -8,7 +8,7 @@ use lib.Dec.{leb, ltb}
 use lib.ListN.{length, getD, set, take, replicate}
 use Rattle.seq.specs.Tab.{tab}
 use Rattle.chacha20.specs.Rfc8439.{keystream}
-use Rattle.chacha20.specs.Apply.{leftAt}
+use Rattle.keystream.specs.Apply.{leftAt}
 use Rattle.shuffle.specs.declared.Drawn.{Drawn}
 use Rattle.shuffle.specs.declared.Drawn.the-variants.{Found, End}
 

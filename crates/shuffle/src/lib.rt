@@ -1,7 +1,7 @@
 // The keyed shuffle: the first entries of a permutation of 0, 1, .. len - 1 that a key's keystream chooses. The layout is
 // the shuffle of 1,024 with the layout's key. Everything is held to specs/Shuffle.antt.
-use chacha20::Applied;
-use chacha20::Position;
+use keystream::Applied;
+use keystream::Position;
 ghost use mathlib.Core.Path.{_≡_};
 ghost use Prim.Native.Nat.{_+_, _^_, _≤_, _<_, min};
 ghost use mathlib.Core.Bool.{cond};
@@ -100,7 +100,7 @@ fn draw(key: &[u8; 32], from: Position, range: u64) -> Drawn
     let mut at = from;
     loop {
         let mut bytes = [0u8; 8];
-        let Applied::Next(next) = chacha20::apply(key, &nonce, at, &mut bytes) else {
+        let Applied::Next(next) = keystream::apply(key, &nonce, at, &mut bytes) else {
             return Drawn::End;
         };
         let value = value_of(&bytes);

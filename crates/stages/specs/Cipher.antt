@@ -1,7 +1,7 @@
 -- The answer to a request for keystream as two numbers: 0, or document 01's number of the refusal; and the position after it. Assumes nothing.
 use Prim.Native.Nat.{ℕ}
-use Rattle.chacha20.specs.declared.Applied.{Applied}
-use Rattle.chacha20.specs.declared.Applied.the-variants.{Next, KeystreamEnd}
+use Rattle.keystream.specs.declared.Applied.{Applied}
+use Rattle.keystream.specs.declared.Applied.the-variants.{Next, KeystreamEnd}
 
 abbrev pub codeOf : Applied → ℕ
 codeOf (Next _) = 0

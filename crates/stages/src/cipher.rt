@@ -1,9 +1,9 @@
 // Crate `chacha20`.
-use chacha20::Applied;
+use keystream::Applied;
 ghost use mathlib.Core.Path.{_≡_};
 ghost use lib.ListN.{length};
 ghost use Rattle.chacha20.specs.Rfc8439.{blockOf};
-ghost use Rattle.chacha20.specs.Apply.{appliedOf, bytesAfter};
+ghost use Rattle.keystream.specs.Apply.{appliedOf, bytesAfter};
 ghost use Rattle.stages.specs.Cipher.{codeOf, nextOf};
 
 #[no_mangle]
@@ -31,7 +31,7 @@ pub extern "C" fn vk_chacha20_apply(
     ensures lent { λ _. ⌜ now (bytes .exit) ≡ bytesAfter (now (key .entry)) (now (nonce .entry)) (now (position .entry)) (now (bytes .entry)) ⌝ }
 {
     let from = *position;
-    let answer = chacha20::apply(key, nonce, from, bytes);
+    let answer = keystream::apply(key, nonce, from, bytes);
     *position = next_after(from, answer);
     code(answer)
 }

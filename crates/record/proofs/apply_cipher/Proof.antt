@@ -1,7 +1,7 @@
 -- The keystream has as many bytes, so `apply` is granted. Assumes nothing.
 use borrow.Author.Needs.{needs}
 use mathlib.Core.Path.{_∙_}
-use Rattle.chacha20.specs.Laws.{after-next}
+use Rattle.keystream.specs.Laws.{after-next}
 use Rattle.record.proofs.apply_cipher.Statement.{statement}
 use Rattle.record.proofs.apply_cipher.Tie as tie
 

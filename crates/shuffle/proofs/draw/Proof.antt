@@ -8,9 +8,9 @@ use native.Mathlib.Omega.{arith}
 use denote.Ref.{now}
 use lib.Dec.{ltb}
 use lib.ListN.{getD}
-use Rattle.chacha20.specs.Laws.{applied-next, next-granted, end-refused}
-use Rattle.chacha20.specs.declared.Applied.the-variants.{Next}
-use Rattle.chacha20.specs.Apply.{leftAt, appliedOf}
+use Rattle.keystream.specs.Laws.{applied-next, next-granted, end-refused}
+use Rattle.keystream.specs.declared.Applied.the-variants.{Next}
+use Rattle.keystream.specs.Apply.{leftAt, appliedOf}
 use Rattle.shuffle.specs.Shuffle.{valueAt, limit, drawn, drawsFrom, streamOf}
 use Rattle.shuffle.specs.Draws.{range-some, draws-end, draws-found, draws-again, value-drawn}
 use Rattle.shuffle.proofs.draw.Statement.{statement}

@@ -5,9 +5,9 @@ use mathlib.Core.List.{List}
 use Prim.Native.Nat.{ℕ, _+_, _-_, _^_}
 use lib.Dec.{leb}
 use lib.ListN.{length}
-use Rattle.chacha20.specs.declared.Applied.{Applied}
-use Rattle.chacha20.specs.declared.Applied.the-variants.{Next, KeystreamEnd}
+use Rattle.keystream.specs.declared.Applied.{Applied}
+use Rattle.keystream.specs.declared.Applied.the-variants.{Next, KeystreamEnd}
 use Rattle.chacha20.specs.Rfc8439.{encrypted}
 
 -- the bytes that the keystream has from byte p on: none where p is its end or beyond
 abbrev pub leftAt : ℕ → ℕ

@@ -7,10 +7,10 @@ use denote.Ref.{now}
 use lib.Bits.{bitXor}
 use lib.ListN.{length, getD}
 use Rattle.seq.specs.Tab.{filled, filled-none, filled-all}
 use Rattle.chacha20.specs.Rfc8439.{xored}
-use Rattle.chacha20.specs.Lists.{filled-step}
-use Rattle.chacha20.proofs.xor_bytes.Statement.{statement}
-use Rattle.chacha20.proofs.xor_bytes.Tie as tie
+use Rattle.keystream.specs.Filled.{filled-step}
+use Rattle.keystream.proofs.xor_bytes.Statement.{statement}
+use Rattle.keystream.proofs.xor_bytes.Tie as tie
 
 abbrev Inv-loop : tie.InvT-loop
 Inv-loop stream at bytes₀ i₀ i-end bytes i = (i-end ≡ length bytes₀) × (i ≤ i-end) × (length bytes ≡ length bytes₀) × (bytes ≡ filled (λ k. bitXor (getD bytes₀ k 0) (getD stream (at + k) 0)) i bytes₀)

@@ -5,10 +5,10 @@ use mathlib.Core.Path.{sym, _∙_}
 use Prim.Native.Nat.{_≤_}
 use denote.Ref.{now}
 use lib.ListN.{length}
-use Rattle.chacha20.specs.Apply.{leftAt}
-use Rattle.chacha20.specs.Laws.{next-granted, end-refused, after-next, after-end}
-use Rattle.chacha20.proofs.apply.Statement.{statement}
-use Rattle.chacha20.proofs.apply.Tie as tie
+use Rattle.keystream.specs.Apply.{leftAt}
+use Rattle.keystream.specs.Laws.{next-granted, end-refused, after-next, after-end}
+use Rattle.keystream.proofs.apply.Statement.{statement}
+use Rattle.keystream.proofs.apply.Tie as tie
 
 answer-to-requires : tie.Need-answer-to-requires
 answer-to-requires c κs = search needs

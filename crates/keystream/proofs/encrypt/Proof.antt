@@ -11,11 +11,11 @@ use lib.ListN.{length, take, drop, getD, length-drop}
 use lib.Seq.{length-take-le, getD-take, getD-drop}
 use borrow.Rule.Slice.PartMut.{putMid}
 use Rattle.seq.specs.Tab.{filled, filled-none, filled-all}
 use Rattle.chacha20.specs.Rfc8439.{blockOf, keystream, xored, encrypted}
-use Rattle.chacha20.specs.Lists.{filled-rest, filled-part}
+use Rattle.keystream.specs.Filled.{filled-rest, filled-part}
 use Rattle.chacha20.specs.Blocks.{block-counted, keystream-in}
-use Rattle.chacha20.proofs.encrypt.Statement.{statement}
-use Rattle.chacha20.proofs.encrypt.Tie as tie
+use Rattle.keystream.proofs.encrypt.Statement.{statement}
+use Rattle.keystream.proofs.encrypt.Tie as tie
 
 -- byte k of the result
 abbrev byteAt : List ℕ → List ℕ → ℕ → List ℕ → ℕ → ℕ

@@ -2,9 +2,9 @@
 use borrow.Author.Needs.{needs}
 use mathlib.Core.Path.{sym}
 use native.Mathlib.Omega.{arith}
-use Rattle.chacha20.specs.Laws.{applied-next, applied-end}
-use Rattle.chacha20.proofs.answer_to.Statement.{statement}
-use Rattle.chacha20.proofs.answer_to.Tie as tie
+use Rattle.keystream.specs.Laws.{applied-next, applied-end}
+use Rattle.keystream.proofs.answer_to.Statement.{statement}
+use Rattle.keystream.proofs.answer_to.Tie as tie
 
 left-requires : tie.Need-left-requires
 left-requires c κs = search needs

@@ -1,0 +1,6 @@
+-- Crate `keystream`: each public function's promise determines its outcome. Assumes nothing.
+use Rattle.determined.specs.One.{Determined, one}
+use Rattle.keystream.proofs as keystream
+
+pub apply-one : Determined keystream.apply.ended keystream.apply.Reads.Post
+apply-one κs a x y p q i = (one (p .0) (q .0) i, (tt, (tt, (tt, (one (p .1) (q .1) i, tt)))))
