@@ -7,9 +7,8 @@ use native.Mathlib.Numerals.{add-one}
 use native.Mathlib.Omega.{arith}
 use lib.Dec.{lit<}
 use lib.ListN.{length, getD, set}
-use Rattle.seq.specs.Tab.{tab, length-tab, tab-same}
+use Rattle.seq.specs.Tab.{tab, length-tab, tab-same, tab-append, tab-getD}
 use Rattle.chacha20.specs.Rfc8439.{initial, sums, littleEndian, serialized, blockFrom, blockOf, blocks, keystream}
-use Rattle.chacha20.specs.Lists.{tab-append, tab-getD}
 
 -- a block is block 0 with the counter put into word 12 of its state
 pub block-counted : (key : List ℕ) (counter : ℕ) (nonce : List ℕ) → blockFrom (set (initial key 0 nonce) 12 counter) ≡ blockOf key counter nonce

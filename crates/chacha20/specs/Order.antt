@@ -4,9 +4,8 @@ use mathlib.Core.Path.{_≡_, refl, subst}
 use mathlib.Core.List.{List}
 use Prim.Native.Nat.{ℕ}
 use lib.ListN.{length, getD}
-use Rattle.seq.specs.Tab.{tab}
+use Rattle.seq.specs.Tab.{tab, tab-getD}
 use Rattle.chacha20.specs.Rfc8439.{quarterRound, innerBlock}
-use Rattle.chacha20.specs.Lists.{tab-getD}
 
 -- the inner block with the first and the third diagonal exchanged
 abbrev pub exchanged : List ℕ → List ℕ

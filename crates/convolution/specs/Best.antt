@@ -10,7 +10,7 @@ use lib.IntN.{ℤ, pos, negℤ, _+ℤ_, +ℤ-assoc, +ℤ-idl, +ℤ-idr}
 use lib.Signed.{_≤ℤ_, ltZ-yes, ltZ-no, ≤ℤ-refl}
 use Rattle.float.specs.Score.{Score, out, at, plus, ltS}
 use Rattle.seq.specs.Tab.{getD-tab}
-use Rattle.convolution.specs.Ccsds131.{out1, out2, register, next, code, run, Bits, none, one}
+use Rattle.encoder.specs.Ccsds131.{out1, out2, register, next, code, run, Bits, none, one}
 use Rattle.convolution.specs.Order.{≤ℤ-trans, ≤ℤ-add, <ℤ-le}
 use Rattle.convolution.specs.Trace.{odd-two, origin-lt, path-bits, path-length, path-run}
 use Rattle.convolution.specs.Decoder.{wholes, pick, voted, cand, evenAt, oddAt, bestAt, step, after, origin, path, starting, decoded, strength}

@@ -16,7 +16,7 @@ use Rattle.convolution.specs.Carried.{votes-length}
 use Rattle.seq.specs.Sum.{sum-same}
 use Rattle.convolution.specs.Rearrange.{sum, rearrange}
 use Rattle.convolution.specs.Decoder.{voted}
-use Rattle.convolution.specs.Ccsds131.{encodeOf}
+use Rattle.encoder.specs.Ccsds131.{encodeOf}
 use Rattle.convolution.specs.RecordBits.{Bytes}
 use Rattle.layout.specs.Permutation.{Undo}
 use Rattle.layout.specs.Places.{through}

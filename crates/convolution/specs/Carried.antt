@@ -13,7 +13,7 @@ use lib.Ieee.{Float, nan, inf, fin, binary32, prec, low, add, neg, lt}
 use Rattle.float.specs.Exact.{Is, is-neg}
 use Rattle.float.specs.Score.{Score, out, at, Scored, plus, ltS, Bounded, scored-add, scored-lt}
 use Rattle.seq.specs.Tab.{getD-tab}
-use Rattle.convolution.specs.Ccsds131.{out1, out2, code, run, Bits}
+use Rattle.encoder.specs.Ccsds131.{out1, out2, code, run, Bits}
 use Rattle.convolution.specs.Order.{size-add, size-neg}
 use Rattle.convolution.specs.Decoder.{floats, wholes, pick, voted, cand, evenAt, oddAt, bestAt, step, after, origin, path, starting, decoded, strength}
 use Rattle.convolution.specs.Best.{score, best}

@@ -17,8 +17,9 @@ use Rattle.float.specs.Exact.{Is}
 use Rattle.seq.specs.Tab.{tab, length-tab, getD-tab}
 use Rattle.convolution.specs.Order.{≤ℤ-trans, ≤ℤ-add}
 use Rattle.convolution.specs.Decoder.{voted, floats, decoded}
-use Rattle.convolution.specs.Ccsds131.{code, run, Bits}
-use Rattle.convolution.specs.RecordBits.{code-length, code-bits, bits-at}
+use Rattle.encoder.specs.Ccsds131.{code, run, Bits}
+use Rattle.encoder.specs.Bits.{bits-at}
+use Rattle.convolution.specs.RecordBits.{code-length, code-bits}
 use Rattle.convolution.specs.Best.{score}
 use Rattle.convolution.specs.Damage.{Votes, none, one, unlike, apart, Fate, kept, zeroed, turned, votedF, zeros, turns}
 use Rattle.convolution.specs.Carried.{nought, sizes, decoded-best}

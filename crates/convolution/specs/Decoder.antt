@@ -8,7 +8,7 @@ use lib.Ieee.{Float, nan, inf, fin, binary32, add, neg, lt}
 use lib.IntN.{ℤ, pos, negℤ}
 use Rattle.float.specs.Score.{Score, out, at, plus, ltS}
 use Rattle.seq.specs.Tab.{tab}
-use Rattle.convolution.specs.Ccsds131.{out1, out2}
+use Rattle.encoder.specs.Ccsds131.{out1, out2}
 
 -- metrics M, votes W: what stands past a list's end, what a lost path has, the metric at the start, a vote added, a vote turned round, the order
 pub record Sums (M W : Type 0) : Type 0 where

@@ -23,7 +23,7 @@ use Rattle.float.specs.Exact.{Is}
 use Rattle.layout.specs.Layout.{blockOf, placeOf}
 use Rattle.layout.specs.Permutation.{layout-undo}
 use Rattle.layout.specs.Places.{blockBits, gathered, through}
-use Rattle.convolution.specs.Ccsds131.{encodeOf}
+use Rattle.encoder.specs.Ccsds131.{encodeOf}
 use Rattle.convolution.specs.Decoder.{floats, voted, decoded, strength}
 use Rattle.convolution.specs.RecordBits.{Bytes, recordOf}
 use Rattle.convolution.specs.Damage.{Votes, unlike, apart, Fate, kept, votedF, zeros, turns}

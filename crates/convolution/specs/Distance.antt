@@ -13,7 +13,7 @@ use borrow.Author.Tests.{eqb-true, eqb-false}
 use lib.ListN.{length, getD}
 use lib.Bits.{differ, bitXor, xor-lt, xor-self}
 use Rattle.convolution.specs.Damage.{unlike}
-use Rattle.convolution.specs.Ccsds131.{parity, out1, out2, register, next, code, run, Bits, one}
+use Rattle.encoder.specs.Ccsds131.{parity, out1, out2, register, next, code, run, Bits, one}
 use Rattle.convolution.specs.Linear.{parity-lt, parity-xor, register-xor, next-xor}
 
 -- in how many coded bits two words differ, where the coded bit i counts k i times, from the bit i on

@@ -14,8 +14,9 @@ use lib.Signed.{_≤ℤ_}
 use lib.Ieee.{Float, nan, fin, binary32, prec, low, add}
 use Rattle.float.specs.Exact.{Is}
 use Rattle.convolution.specs.Decoder.{floats, decoded, strength}
-use Rattle.convolution.specs.Ccsds131.{code, bitsOf, sixZeros, encodeOf}
-use Rattle.convolution.specs.RecordBits.{Bytes, recordOf, recordOf-bitsOf, code-length, bitsOf-length, bitsOf-bits, six-bits, record-home, bitsOf-recordOf}
+use Rattle.encoder.specs.Ccsds131.{code, bitsOf, sixZeros, encodeOf}
+use Rattle.encoder.specs.Bits.{bitsOf-length, bitsOf-bits, six-bits}
+use Rattle.convolution.specs.RecordBits.{Bytes, recordOf, recordOf-bitsOf, code-length, record-home, bitsOf-recordOf}
 use Rattle.convolution.specs.Best.{score}
 use Rattle.convolution.specs.Damage.{Votes, apart, Fate, kept}
 use Rattle.convolution.specs.Carried.{votes-length, decoded-best}

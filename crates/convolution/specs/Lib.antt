@@ -1,5 +1,3 @@
-pub mod Ccsds131
-pub mod Sheet
 pub mod Order
 pub mod Decoder
 pub mod Packed

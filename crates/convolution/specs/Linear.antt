@@ -5,7 +5,7 @@ use native.Mathlib.Omega.{arith}
 use lib.Arith.{bin-ind}
 use lib.Count.{ones, ones-step}
 use lib.Bits.{differ, bitAnd, bitXor, and-step, xor-step, xor-block, xor-shr, xor-zero-l}
-use Rattle.convolution.specs.Ccsds131.{parity, register, next}
+use Rattle.encoder.specs.Ccsds131.{parity, register, next}
 
 pub differ-sum : (x y : ℕ) → x < 2 → y < 2 → differ x y ≡ (x + y) % 2
 differ-sum zero y h k = omega arith

@@ -1,18 +1,19 @@
--- What the loops of the encoder and the decoder keep: one step more of a word, of a path traced back, and of two entries at a time. Assumes nothing.
+-- What the decoder's loops keep: one step more of a path traced back, of the votes, two entries at a time, and of a byte. Assumes nothing.
 use mathlib.Core.Path.{_≡_, refl, sym, ap, ap₂, _∙_}
 use mathlib.Core.List.{List, [], _∷_, _++_, append-assoc}
-use Prim.Native.Nat.{ℕ, zero, suc, _+_, _-_, _*_, _/_, _%_, _^_, _≤_, _<_}
+use Prim.Native.Nat.{ℕ, zero, suc, _+_, _*_, _/_, _%_, _^_, _≤_, _<_}
 use native.Mathlib.Nat.{add-zero, pow-suc}
 use native.Mathlib.Numerals.{add-one}
 use native.Mathlib.Omega.{arith}
 use lib.ListN.{length, getD, take, drop, set, length-set}
 use lib.Seq.{take-suc, drop-cons, getD-set-same, drop-set-lt, take-suc-set, length-take-le}
-use Rattle.convolution.specs.Ccsds131.{out1, out2, register, next, code, run, bitsOf, sixZeros, Bits}
 use lib.Pow.{pow-mono}
+use Rattle.encoder.specs.Ccsds131.{Bits}
+use Rattle.encoder.specs.Bits.{bits-at}
 use Rattle.convolution.specs.Packed.{packed}
 use Rattle.convolution.specs.Decoder.{Sums, step, after, oddAt}
 use Rattle.convolution.specs.Trace.{origR, pathR, rows, after-more, rows-more}
-use Rattle.convolution.specs.RecordBits.{byteAt, bits-at}
+use Rattle.convolution.specs.RecordBits.{byteAt}
 
 module _ {A : Type 0} where
   pub take-two : (xs : List A) (t : ℕ) (d : A) → 2 * t + 1 < length xs → take (2 * (t + 1)) xs ≡ take (2 * t) xs ++ (getD xs (2 * t) d ∷ getD xs (2 * t + 1) d ∷ [])
@@ -23,15 +24,6 @@ module _ {A : Type 0} where
       ∙ take-suc xs (2 * t + 1) d h
       ∙ ap (λ (l : List A). l ++ (getD xs (2 * t + 1) d ∷ [])) (ap (λ (n : ℕ). take n xs) f ∙ take-suc xs (2 * t) d (omega arith))
       ∙ append-assoc (take (2 * t) xs) (getD xs (2 * t) d ∷ []) (getD xs (2 * t + 1) d ∷ [])
-
-  pub take-set-two : (xs : List A) (t : ℕ) (a b : A) → 2 * t + 1 < length xs → take (2 * (t + 1)) (set (set xs (2 * t) a) (2 * t + 1) b) ≡ take (2 * t) xs ++ (a ∷ b ∷ [])
-  take-set-two xs t a b h =
-      let e : 2 * (t + 1) ≡ suc (2 * t + 1) = omega arith in
-      let f : 2 * t + 1 ≡ suc (2 * t) = omega arith in
-      ap (λ (n : ℕ). take n (set (set xs (2 * t) a) (2 * t + 1) b)) e
-      ∙ take-suc-set (set xs (2 * t) a) (2 * t + 1) b (omega (arith, length-set xs (2 * t) a))
-      ∙ ap (λ (l : List A). l ++ (b ∷ [])) (ap (λ (n : ℕ). take n (set xs (2 * t) a)) f ∙ take-suc-set xs (2 * t) a (omega arith))
-      ∙ append-assoc (take (2 * t) xs) (a ∷ []) (b ∷ [])
 
   pub drop-set : (xs : List A) (t : ℕ) (a : A) → t < length xs → drop t (set xs t a) ≡ a ∷ drop (suc t) xs
   drop-set xs t a h =
@@ -47,72 +39,6 @@ orig-at ds k t j h e = rw (drop-cons ds t 0 h, e) refl
 pub path-at : (ds : List ℕ) (k t j : ℕ) → t < length ds → j ≡ origR (drop (suc t) ds) k → pathR (drop t ds) k ≡ j / 32 ∷ pathR (drop (suc t) ds) k
 unfolding pathR
 path-at ds k t j h e = rw (drop-cons ds t 0 h, e) refl
-
--- ---- a word, one bit more
-
-pub run-more : (s : ℕ) (bs : List ℕ) (b : ℕ) → run s (bs ++ (b ∷ [])) ≡ next b (run s bs)
-unfolding run
-run-more s [] b = refl
-run-more s (x ∷ bs) b = run-more (next x s) bs b
-
-pub code-more : (s : ℕ) (bs : List ℕ) (b : ℕ) → code s (bs ++ (b ∷ [])) ≡ code s bs ++ (out1 (register b (run s bs)) ∷ out2 (register b (run s bs)) ∷ [])
-unfolding code run
-code-more s [] b = refl
-code-more s (x ∷ bs) b = ap (λ (l : List ℕ). out1 (register x s) ∷ out2 (register x s) ∷ l) (code-more (next x s) bs b)
-
--- ---- a byte's bit
-
-pub bit-in : (xs tail : List ℕ) (t : ℕ) → t / 8 < length xs → getD (bitsOf xs tail) t 0 ≡ getD xs (t / 8) 0 / 2 ^ (7 - t % 8) % 2
-unfolding bitsOf
-bit-in [] tail t h = absurd (omega arith)
-bit-in (x ∷ xs) tail zero h = refl
-bit-in (x ∷ xs) tail (suc zero) h = refl
-bit-in (x ∷ xs) tail (suc (suc zero)) h = refl
-bit-in (x ∷ xs) tail (suc (suc (suc zero))) h = refl
-bit-in (x ∷ xs) tail (suc (suc (suc (suc zero)))) h = refl
-bit-in (x ∷ xs) tail (suc (suc (suc (suc (suc zero))))) h = refl
-bit-in (x ∷ xs) tail (suc (suc (suc (suc (suc (suc zero)))))) h = refl
-bit-in (x ∷ xs) tail (suc (suc (suc (suc (suc (suc (suc zero))))))) h = ap (λ (y : ℕ). y % 2) (let e : x ≡ x / 1 = omega arith in e)
-bit-in (x ∷ xs) tail (suc (suc (suc (suc (suc (suc (suc (suc t)))))))) h =
-    let u = suc (suc (suc (suc (suc (suc (suc (suc t))))))) in
-    let q : u / 8 ≡ suc (t / 8) = omega arith in
-    let r : u % 8 ≡ t % 8 = omega arith in
-    bit-in xs tail t (omega arith) ∙ ap₂ (λ (i k : ℕ). getD (x ∷ xs) i 0 / 2 ^ (7 - k) % 2) (sym q) (sym r)
-
-six-at : (t : ℕ) → getD sixZeros t 0 ≡ 0
-six-at zero = refl
-six-at (suc zero) = refl
-six-at (suc (suc zero)) = refl
-six-at (suc (suc (suc zero))) = refl
-six-at (suc (suc (suc (suc zero)))) = refl
-six-at (suc (suc (suc (suc (suc zero))))) = refl
-six-at (suc (suc (suc (suc (suc (suc t)))))) = refl
-
-pub bit-out : (xs : List ℕ) (t : ℕ) → length xs ≤ t / 8 → getD (bitsOf xs sixZeros) t 0 ≡ 0
-unfolding bitsOf
-bit-out [] t h = six-at t
-bit-out (x ∷ xs) zero h = absurd (omega arith)
-bit-out (x ∷ xs) (suc zero) h = absurd (omega arith)
-bit-out (x ∷ xs) (suc (suc zero)) h = absurd (omega arith)
-bit-out (x ∷ xs) (suc (suc (suc zero))) h = absurd (omega arith)
-bit-out (x ∷ xs) (suc (suc (suc (suc zero)))) h = absurd (omega arith)
-bit-out (x ∷ xs) (suc (suc (suc (suc (suc zero))))) h = absurd (omega arith)
-bit-out (x ∷ xs) (suc (suc (suc (suc (suc (suc zero)))))) h = absurd (omega arith)
-bit-out (x ∷ xs) (suc (suc (suc (suc (suc (suc (suc zero))))))) h = absurd (omega arith)
-bit-out (x ∷ xs) (suc (suc (suc (suc (suc (suc (suc (suc t)))))))) h = bit-out xs t (omega arith)
-
-pub word-step : (bs coded : List ℕ) (t s r a b : ℕ) → t < length bs → 2 * t + 1 < length coded → s ≡ run 0 (take t bs) → r ≡ register (getD bs t 0) s → a ≡ out1 r → b ≡ out2 r
-    → take (2 * t) coded ≡ code 0 (take t bs)
-    → (r / 2 ≡ run 0 (take (t + 1) bs)) × (take (2 * (t + 1)) (set (set coded (2 * t) a) (2 * t + 1) b) ≡ code 0 (take (t + 1) bs))
-word-step bs coded t s r a b h k e f p q w =
-    let x = getD bs t 0 in
-    let one-more : take (t + 1) bs ≡ take t bs ++ (x ∷ []) = ap (λ (n : ℕ). take n bs) (add-one t) ∙ take-suc bs t 0 h in
-    let f′ : r ≡ register x (run 0 (take t bs)) = f ∙ ap (register x) e in (
-      ap (λ (n : ℕ). n / 2) f′ ∙ sym (ap (run 0) one-more ∙ run-more 0 (take t bs) x),
-      take-set-two coded t a b k
-          ∙ ap₂ (λ (l m : List ℕ). l ++ m) w (ap₂ (λ (y z : ℕ). y ∷ z ∷ []) (p ∙ ap out1 f′) (q ∙ ap out2 f′))
-          ∙ sym (ap (code 0) one-more ∙ code-more 0 (take t bs) x),
-    )
 
 -- ---- the decoder forward, one step more
 

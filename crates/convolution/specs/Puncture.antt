@@ -9,7 +9,7 @@ use lib.ListN.{length}
 use lib.IntN.{ℤ, pos, negℤ, _+ℤ_, +ℤ-idl}
 use lib.Ieee.{Float, fin}
 use Rattle.convolution.specs.Decoder.{voted}
-use Rattle.convolution.specs.Ccsds131.{Bits, none, one}
+use Rattle.encoder.specs.Ccsds131.{Bits, none, one}
 use Rattle.convolution.specs.Best.{score}
 use Rattle.convolution.specs.Damage.{Votes, unlike, apart}
 use Rattle.convolution.specs.Carried.{sizes, nought}

@@ -1,4 +1,4 @@
--- A record's bits, most significant first, and the record that bits make. Assumes nothing.
+-- The record that bits make, most significant first, and the words of a record's bits. Assumes nothing.
 use mathlib.Core.Path.{_≡_, refl, sym, ap, _∙_}
 use mathlib.Core.List.{List, [], _∷_}
 use Prim.Native.Nat.{ℕ, zero, suc, _+_, _*_, _/_, _%_, _≤_, _<_}
@@ -7,7 +7,8 @@ use native.Mathlib.Omega.{arith}
 use lib.ListN.{length, getD}
 use lib.Seq.{ext-getD}
 use Rattle.seq.specs.Tab.{tab, length-tab, getD-tab, tab-front, tab-same}
-use Rattle.convolution.specs.Ccsds131.{next, code, run, byteBits, bitsOf, sixZeros, Bits, none, one}
+use Rattle.encoder.specs.Ccsds131.{next, code, run, byteBits, bitsOf, sixZeros, Bits, none, one}
+use Rattle.encoder.specs.Bits.{half-bit}
 use Rattle.convolution.specs.Linear.{parity-lt}
 
 -- the byte i of bits, and n bytes
@@ -33,30 +34,6 @@ pub code-bits : (s : ℕ) (bs : List ℕ) → Bits (code s bs)
 unfolding code
 code-bits s [] = none
 code-bits s (b ∷ bs) = one (parity-lt 0o171 (b * 64 + s)) (one (parity-lt 0o133 (b * 64 + s)) (code-bits (next b s) bs))
-
-pub bits-at : (bs : List ℕ) (i : ℕ) → Bits bs → getD bs i 0 < 2
-bits-at [] i h = omega arith
-bits-at (b ∷ bs) zero (one h k) = h
-bits-at (b ∷ bs) (suc i) (one h k) = bits-at bs i k
-
--- ---- the bits of bytes
-
-pub bitsOf-length : (xs tail : List ℕ) → length (bitsOf xs tail) ≡ 8 * length xs + length tail
-unfolding bitsOf
-bitsOf-length [] tail = omega arith
-bitsOf-length (x ∷ xs) tail = let h = bitsOf-length xs tail in omega arith
-
-half-bit : (x : ℕ) → x % 2 < 2
-half-bit x = omega arith
-
-pub bitsOf-bits : (xs tail : List ℕ) → Bits tail → Bits (bitsOf xs tail)
-unfolding bitsOf
-bitsOf-bits [] tail t = t
-bitsOf-bits (x ∷ xs) tail t =
-    one (half-bit (x / 128)) (one (half-bit (x / 64)) (one (half-bit (x / 32)) (one (half-bit (x / 16)) (one (half-bit (x / 8)) (one (half-bit (x / 4)) (one (half-bit (x / 2)) (one (half-bit x) (bitsOf-bits xs tail t))))))))
-
-pub six-bits : Bits sixZeros
-six-bits = let z : 0 < 2 = omega arith in one z (one z (one z (one z (one z (one z none)))))
 
 -- ---- six zeros lead to state 0, and only they do
 

@@ -10,7 +10,7 @@ use lib.ListN.{getD}
 use lib.Ieee.{Float, nan, inf, binary32, add, sub, neg, lt}
 use lib.Ieee.Fits.{and-l, and-r}
 use Rattle.float.specs.Whole.{neg-neg}
-use Rattle.convolution.specs.Ccsds131.{parity, out1, out2}
+use Rattle.encoder.specs.Ccsds131.{parity, out1, out2}
 use Rattle.convolution.specs.Linear.{parity-lt}
 use Rattle.convolution.specs.Decoder.{floats, pick, voted, cand, evenAt, bestAt, oddAt}
 use Rattle.convolution.specs.Distance.{every, every-at}

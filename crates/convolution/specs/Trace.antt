@@ -6,7 +6,7 @@ use Prim.Native.Nat.{ℕ, zero, suc, _+_, _*_, _/_, _%_, _^_, _<_}
 use native.Mathlib.Omega.{arith}
 use lib.ListN.{length}
 use Rattle.convolution.specs.Packed.{packed, unpacked}
-use Rattle.convolution.specs.Ccsds131.{Bits, none, one, next, run}
+use Rattle.encoder.specs.Ccsds131.{Bits, none, one, next, run}
 use Rattle.convolution.specs.Decoder.{Sums, pick, cand, evenAt, oddAt, step, after, origin, path, starting, decoded}
 
 -- by decisions of which bit k of number t says whether state k is reached from its odd predecessor at step t

@@ -5,7 +5,7 @@ ghost use mathlib.Core.Bool.{true};
 ghost use Prim.Native.Nat.{_+_, _*_, _/_, _%_, _^_, _<_, _≤_};
 ghost use lib.ListN.{length, getD};
 ghost use lib.Ieee.{nan, neg, inf, lt};
-ghost use Rattle.convolution.specs.Ccsds131.{Bits};
+ghost use Rattle.encoder.specs.Ccsds131.{Bits};
 ghost use Rattle.convolution.specs.Decoder.{floats, pick, voted, bestAt, oddAt, step, starting, decoded, strength};
 ghost use Rattle.convolution.specs.Packed.{packed};
 ghost use Rattle.convolution.specs.Trace.{rows, pathR};

@@ -2,7 +2,7 @@
 // gives the complement of both.
 ghost use mathlib.Core.Path.{_≡_};
 ghost use Prim.Native.Nat.{_*_, _<_};
-ghost use Rattle.convolution.specs.Ccsds131.{out1, out2};
+ghost use Rattle.encoder.specs.Ccsds131.{out1, out2};
 
 const OUT1: [u8; 64] = [
     0,

@@ -2,9 +2,6 @@
 use Rattle.determined.specs.One.{Determined, one}
 use Rattle.convolution.proofs as convolution
 
-pub encode-one : Determined convolution.encoder.encode.ended convolution.encoder.encode.Reads.Post
-encode-one κs a x y p q i = (one p q i, x .1)
-
 pub viterbi-one : Determined convolution.decoder.viterbi.ended convolution.decoder.viterbi.Reads.Post
 viterbi-one κs a x y p q i = (one p q i, x .1)
 

@@ -7,9 +7,13 @@ pub mod Chacha20
 pub mod Keystream
 pub mod Utf8
 pub mod Record
+pub mod Build
+pub mod Inside
+pub mod Parse
 pub mod Shuffle
 pub mod Layout
 pub mod Dither
+pub mod Encoder
 pub mod Convolution
 pub mod Transform
 pub mod Block

@@ -1,12 +1,18 @@
--- Crate `record`: each public function's promise determines its outcome. Not here, since their module is private: `number_at`, `put_crc`, `intact`. Assumes nothing.
+-- Crate `record`: each public function's promise determines its outcome. Assumes nothing.
 use Rattle.determined.specs.One.{Determined, one}
 use Rattle.record.proofs as rec
 
-pub build-record-one : Determined rec.build_record.ended rec.build_record.Reads.Post
-build-record-one κs a x y p q i = (one p q i, x .1)
+pub number-at-one : Determined rec.crc.number_at.ended rec.crc.number_at.Reads.Post
+number-at-one κs a x y p q i = (one p q i, x .1)
+
+pub put-crc-one : Determined rec.crc.put_crc.ended rec.crc.put_crc.Reads.Post
+put-crc-one κs a x y p q i = (tt, (one p q i, (tt, tt)))
+
+pub intact-one : Determined rec.crc.intact.ended rec.crc.intact.Reads.Post
+intact-one κs a x y p q i = (one p q i, x .1)
+
+pub cover-one : Determined rec.cover.ended rec.cover.Reads.Post
+cover-one κs a x y p q i = (tt, (one p q i, (tt, tt)))
 
 pub not-read-one : Determined rec.not_read.ended rec.not_read.Reads.Post
 not-read-one κs a x y p q i = (one p q i, x .1)
-
-pub parse-record-one : Determined rec.parse_record.ended rec.parse_record.Reads.Post
-parse-record-one κs a x y p q i = (one p q i, x .1)

@@ -4,8 +4,7 @@ use mathlib.Core.List.{List, _++_, append-assoc}
 use Prim.Native.Nat.{ℕ, suc, _+_, _<_}
 use lib.ListN.{length, take, drop, set, getD}
 use lib.Seq.{drop-cons, drop-drop, take-at, drop-at, getD-at}
-use Rattle.seq.specs.Tab.{tab, length-tab, tab-same, filled, filled-more}
-use Rattle.chacha20.specs.Lists.{tab-append}
+use Rattle.seq.specs.Tab.{tab, length-tab, tab-same, filled, filled-more, tab-append}
 
 module _ {A : Type 0} where
   -- the places that are not filled yet hold what they held

@@ -3,4 +3,3 @@ pub mod Answers
 pub mod Laws
 pub mod Opened
 pub mod Theorems
-pub mod Sheet

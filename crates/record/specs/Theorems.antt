@@ -19,7 +19,6 @@ use Rattle.record.specs.declared.Answer.the-variants.{Done, Refused}
 use Rattle.record.specs.declared.Lock.{Lock}
 use Rattle.record.specs.declared.Key.{Key}
 use Rattle.record.specs.Record.{Profile, short, saltAt, lengthAt, outerAt, numberAt, intact, covered, refused, gives, headOf, locked, recordOf, builtOf, textIn, insideOf, parsedOf}
-use Rattle.record.specs.Answers.{builtAs}
 use Rattle.record.specs.Opened.{outer-right, head-there, mode-keyed, mode-plain, salt-there, text-opened, inside-opened}
 
 -- the key that a lock is opened with
@@ -132,19 +131,7 @@ module _ (p : Profile) (apart : eqb (p .keyed) (p .plain) ≡ false) where
       ∙ text-opened p text₂ lock₂ four₂ fits₂) in
       (texts, heads .0, heads .1)
 
--- ---- building
+-- ---- answers
 
 pub refused-not-done : (r : Refusal) → Refused r ≡ Done → ⊥
 refused-not-done r e = let z : _≡_ {A = ℕ} 0 1 = cc e in absurd (omega arith)
-
--- a text that is not refused has its record
-pub built-done : (text : List ℕ) (lock : Lock) → builtAs (builtOf short text lock) .answer ≡ Done → builtAs (builtOf short text lock) .bytes ≡ recordOf short text lock
-unfolding builtOf
-built-done text lock e = go (leb (length text) (short .room)) (counted text) e
-  where
-    go : (s t : Bool)
-        → builtAs (cond (not s) (refused (TextTooLong (length text))) (cond (not t) (refused TextNotUtf8) (gives (recordOf short text lock)))) .answer ≡ Done
-        → builtAs (cond (not s) (refused (TextTooLong (length text))) (cond (not t) (refused TextNotUtf8) (gives (recordOf short text lock)))) .bytes ≡ recordOf short text lock
-    go true true e = refl
-    go true false e = absurd (refused-not-done _ e)
-    go false t e = absurd (refused-not-done _ e)

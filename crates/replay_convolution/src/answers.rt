@@ -21,7 +21,7 @@ fn encodes(text: &[u8], bytes: Field, coded: Field) -> bool
     let mut packed = [0u8; 94];
     let one = lists::hex_bytes(text, bytes, &mut plain);
     let other = lists::hex_bytes(text, coded, &mut packed);
-    one.good && other.good && same_coded(&convolution::encoder::encode(&plain), &packed)
+    one.good && other.good && same_coded(&encoder::encode(&plain), &packed)
 }
 
 fn same_record(a: &[u8; 46], b: &[u8; 46]) -> bool {

@@ -1,7 +1,7 @@
 // Demand 3, run: a record laid over the 1,024 blocks, a vote zeroed or reversed in each block in turn; and the limit, where all
 // votes are +1 but zero in the ten blocks in which the zero record and the record with last byte 01 differ.
 use convolution::decoder::viterbi;
-use convolution::encoder::encode;
+use encoder::encode;
 
 fn sure(bit: u8) -> f32 {
     if bit == 0 { 1.0 } else { -1.0 }

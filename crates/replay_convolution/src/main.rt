@@ -1,5 +1,5 @@
-// Replays the Rust's stored answers for crate `convolution`, and runs what demand 3 says of damage: every single fault on a
-// record, and the ten zeroed blocks at which it ends.
+// Replays the Rust's stored answers for the crates `encoder` and `convolution`, and runs what demand 3 says of damage:
+// every single fault on a record, and the ten zeroed blocks at which it ends.
 mod answers;
 mod faults;
 

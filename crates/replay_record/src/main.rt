@@ -1,4 +1,4 @@
-// Replays the Rust's stored answers for crate `record`: data/build.txt has records built and texts refused, data/parse.txt
+// Replays the Rust's stored answers for the crates `build` and `parse`: data/build.txt has records built and texts refused, data/parse.txt
 // records read, damaged and refused. A case is six fields in both. Then texts too long for a list are built.
 use lists::Field;
 use record::Answer;
@@ -80,7 +80,7 @@ fn built(text: &[u8], case: Case) -> bool
     let given = stored.given;
     let mut salt = [0u8; 4];
     let salted = lists::hex_bytes(text, c, &mut salt);
-    let ours = record::build_record(&bytes[..count], Lock { given, key, salt });
+    let ours = build::build_record(&bytes[..count], Lock { given, key, salt });
     let answer = ours.answer;
     let made = ours.bytes;
     let right = told(text, answer, d, e);
@@ -106,7 +106,7 @@ fn parsed(text: &[u8], case: Case) -> bool
     let stored = key_of(text, b);
     let key = stored.bytes;
     let given = stored.given;
-    let ours = record::parse_record(&bytes, Key { given, bytes: key });
+    let ours = parse::parse_record(&bytes, Key { given, bytes: key });
     let answer = ours.answer;
     let read = ours.text;
     let right = told(text, answer, c, d);
@@ -167,7 +167,7 @@ fn taken(text: &[u8]) -> u64
         key: [0; 32],
         salt: [0; 4],
     };
-    let ours = record::build_record(text, lock);
+    let ours = build::build_record(text, lock);
     let made = ours.bytes;
     let answer = ours.answer;
     let Answer::Refused(r) = answer else {

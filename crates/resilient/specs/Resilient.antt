@@ -9,9 +9,10 @@ use Rattle.record.specs.declared.Key.{Key}
 use Rattle.record.specs.declared.Lock.{Lock}
 use Rattle.record.specs.declared.Reading.{Reading}
 use Rattle.record.specs.Record.{short, recordOf, refused, builtOf}
-use Rattle.record.specs.Answers.{builtAs, readAs}
+use Rattle.record.specs.Answers.{readAs}
+use Rattle.build.specs.Answers.{builtAs}
 use Rattle.layout.specs.Places.{blockBits}
-use Rattle.convolution.specs.Ccsds131.{encodeOf}
+use Rattle.encoder.specs.Ccsds131.{encodeOf}
 use Rattle.picture.specs.declared.Picture.{Picture}
 use Rattle.picture.specs.Admission.{first, writeAdmission, readAdmission}
 use Rattle.carrier.specs.Carrier.{cleared, markedSamples, pictureVotes}

@@ -11,9 +11,9 @@ use Rattle.refusal.specs.declared.Refusal.the-variants.{TextTooLong, ImageTooSm
 use Rattle.record.specs.declared.Answer.{Answer}
 use Rattle.record.specs.declared.Answer.the-variants.{Done, Refused}
 use Rattle.record.specs.declared.Lock.{Lock}
-use Rattle.record.specs.Sheet.{letters, none-passes, of-32-passes, of-33-refused}
-use Rattle.convolution.specs.Ccsds131.{encodeOf}
-use Rattle.convolution.specs.Sheet.{zero-record, first-bit, last-bit}
+use Rattle.build.specs.Sheet.{letters, none-passes, of-32-passes, of-33-refused}
+use Rattle.encoder.specs.Ccsds131.{encodeOf}
+use Rattle.encoder.specs.Sheet.{zero-record, first-bit, last-bit}
 use Rattle.block.specs.Mark.{halfOf, markedOf}
 use Rattle.block.specs.Soft.{termOf}
 use Rattle.block.specs.Sheet.{marked-sheet, term-sheet, rest-sheet}

@@ -22,7 +22,7 @@ pub fn write(
     ensures samples { λ _. ⌜ now (samples .exit) ≡ writtenOf (now (text .entry)) lock picture (now (samples .entry)) (now (work .entry)) .samples ⌝ }
     ensures work { λ _. ⌜ now (work .exit) ≡ writtenOf (now (text .entry)) lock picture (now (samples .entry)) (now (work .entry)) .work ⌝ }
 {
-    let built = record::build_record(text, lock);
+    let built = build::build_record(text, lock);
     let text_answer = built.answer;
     let picture_answer = picture::may_write(picture, samples.len(), work.len());
     let answer = picture::first(text_answer, picture_answer);
@@ -30,7 +30,7 @@ pub fn write(
         return answer;
     };
     let bytes = built.bytes;
-    let bits = layout::block_bits(&convolution::encoder::encode(&bytes));
+    let bits = layout::block_bits(&encoder::encode(&bytes));
     carrier::mark(samples, picture, &bits, work);
     answer
 }

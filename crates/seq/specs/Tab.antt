@@ -4,10 +4,10 @@ use mathlib.Core.Logic.{inl, inr}
 use mathlib.Core.List.{List, [], _∷_, _++_, append-assoc, append-nil}
 use Prim.Native.Nat.{ℕ, zero, suc, _+_, _<_}
 use native.Mathlib.Numerals.{add-one}
-use native.Mathlib.Nat.{eq-or-lt-of-le}
+use native.Mathlib.Nat.{eq-or-lt-of-le, add-zero, add-suc}
 use native.Mathlib.Omega.{arith}
 use lib.ListN.{length, take, drop, set, getD, replicate, length-append, List·getD-append}
-use lib.Seq.{drop-cons, set-at, drop-length, take-suc-set, take-all, getD-at}
+use lib.Seq.{drop-cons, set-at, drop-length, take-suc-set, take-all, getD-at, ext-getD}
 
 module _ {A : Type 0} where
   -- f 0, f 1, .. f (n - 1)
@@ -41,6 +41,17 @@ module _ {A : Type 0} where
   unfolding tab
   tab-same f g zero h = refl
   tab-same f g (suc n) h = ap₂ (λ (xs : List A) (x : A). xs ++ (x ∷ [])) (tab-same f g n (λ i k. h i (omega arith))) (h n (omega arith))
+
+  pub tab-append : (f : ℕ → A) (n m : ℕ) → tab f (n + m) ≡ tab f n ++ tab (λ k. f (n + k)) m
+  unfolding tab
+  tab-append f n zero = ap (tab f) (add-zero n) ∙ sym (append-nil (tab f n))
+  tab-append f n (suc m) = rw (add-suc, tab-append f n m) (append-assoc (tab f n) (tab (λ k. f (n + k)) m) (f (n + m) ∷ []))
+
+  -- a list is the table of its places
+  pub tab-getD : (xs : List A) (z : A) → tab (λ k. getD xs k z) (length xs) ≡ xs
+  tab-getD xs z =
+      ext-getD z (tab (λ k. getD xs k z) (length xs)) xs (length-tab _ _)
+      (λ i h. getD-tab (λ k. getD xs k z) (length xs) i z (rw length-tab at h))
 
   pub tab-replicate : (a : A) (n : ℕ) → tab (λ (i : ℕ). a) n ≡ replicate n a
   unfolding tab

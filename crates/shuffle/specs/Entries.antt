@@ -7,8 +7,7 @@ use native.Mathlib.Omega.{arith}
 use lib.Dec.{leb}
 use lib.ListN.{length, take}
 use lib.Seq.{take-at}
-use Rattle.seq.specs.Tab.{tab, length-tab}
-use Rattle.chacha20.specs.Lists.{tab-append}
+use Rattle.seq.specs.Tab.{tab, length-tab, tab-append}
 use Rattle.shuffle.specs.declared.Drawn.{Drawn}
 use Rattle.shuffle.specs.declared.Drawn.the-variants.{Found, End}
 use Rattle.shuffle.specs.Shuffle.{drawn, drawsFrom, exchanged, onward, made, streamOf, shuffled, longest, shuffleOf}

@@ -1,4 +1,4 @@
-// Crates `crc32`, `utf8`, `shuffle`, `layout`, `dither` and `convolution`.
+// Crates `crc32`, `utf8`, `shuffle`, `layout`, `dither`, `encoder` and `convolution`.
 ghost use mathlib.Core.Path.{_≡_};
 ghost use Prim.Native.Nat.{_+_, _*_};
 ghost use lib.ListN.{length};
@@ -9,7 +9,7 @@ ghost use Rattle.utf8.specs.Counted.{counted};
 ghost use Rattle.dither.specs.Dither.{ditherOf};
 ghost use Rattle.layout.specs.Places.{blockBits, gathered};
 ghost use Rattle.shuffle.specs.Shuffle.{shuffleOf, lentFor};
-ghost use Rattle.convolution.specs.Ccsds131.{encodeOf};
+ghost use Rattle.encoder.specs.Ccsds131.{encodeOf};
 ghost use Rattle.convolution.specs.Decoder.{floats, decoded, strength};
 ghost use Rattle.convolution.specs.RecordBits.{recordOf};
 
@@ -67,7 +67,7 @@ pub extern "C" fn vk_shuffle(key: &[u8; 32], len: usize, count: usize, entries: 
 pub extern "C" fn vk_encode(bytes: &[u8; 46], coded: &mut [u8; 748])
     ensures { λ _. ⌜ now (coded .exit) ≡ encodeOf (now (bytes .entry)) ⌝ }
 {
-    *coded = convolution::encoder::encode(bytes);
+    *coded = encoder::encode(bytes);
 }
 
 // The record, and the metric with which state 0 ended.

@@ -1,10 +1,11 @@
-// Crate `record`. An answer is given as 0 or as the refusal's number, and the number that goes with it
+// Crates `build` and `parse`. An answer is given as 0 or as the refusal's number, and the number that goes with it
 // at `given`.
 use record::Key;
 use record::Lock;
 ghost use mathlib.Core.Path.{_≡_};
 ghost use Rattle.record.specs.Record.{short, builtOf, parsedOf};
-ghost use Rattle.record.specs.Answers.{builtAs, readAs};
+ghost use Rattle.record.specs.Answers.{readAs};
+ghost use Rattle.build.specs.Answers.{builtAs};
 ghost use Rattle.face.specs.Face.{codeOf, givenFor, lockOf, keyOf};
 
 #[no_mangle]
@@ -25,7 +26,7 @@ pub extern "C" fn vk_record(
         key: *key,
         salt: *salt,
     };
-    let built = record::build_record(text, lock);
+    let built = build::build_record(text, lock);
     let made = built.bytes;
     let answer = built.answer;
     *bytes = made;
@@ -47,7 +48,7 @@ pub extern "C" fn vk_parse(
     ensures long { λ _. ⌜ now (length .exit) ≡ readAs (parsedOf short (now (bytes .entry)) (keyOf keyed (now (key .entry)))) .length ⌝ }
     ensures number { λ _. ⌜ now (given .exit) ≡ givenFor (readAs (parsedOf short (now (bytes .entry)) (keyOf keyed (now (key .entry)))) .answer) ⌝ }
 {
-    let reading = record::parse_record(
+    let reading = parse::parse_record(
         bytes,
         Key {
             given: keyed,

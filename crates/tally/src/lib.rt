@@ -17,7 +17,7 @@ pub fn text_of(votes: &[f32; BLOCKS], key: Key) -> Reading
 {
     let soft = layout::gather(votes);
     let bytes = convolution::decoder::viterbi(&soft);
-    record::parse_record(&bytes, key)
+    parse::parse_record(&bytes, key)
 }
 
 // The place of the first vote that is not a number from -1 to 1, or the number of votes.

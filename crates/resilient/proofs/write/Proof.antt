@@ -7,10 +7,10 @@ use lib.Dec.{lit≤}
 use lib.ListN.{length}
 use denote.Ref.{now}
 use Rattle.record.specs.declared.Answer.the-variants.{Done}
-use Rattle.record.specs.declared.Built.{Built}
-use Rattle.record.specs.Theorems.{built-done}
+use Rattle.build.specs.declared.Built.{Built}
+use Rattle.build.specs.Theorems.{built-done}
 use Rattle.layout.specs.Places.{blockBits}
-use Rattle.convolution.specs.Ccsds131.{encodeOf}
+use Rattle.encoder.specs.Ccsds131.{encodeOf}
 use Rattle.picture.specs.Admitted.{first-done, write-admitted}
 use Rattle.carrier.specs.Carrier.{markedSamples}
 use Rattle.resilient.specs.Resilient.{bitsOf, writeAnswer, writtenOf}

@@ -2,7 +2,7 @@ use mathlib.Core.Path.{_≡_, refl, ap, _∙_}
 use Prim.Native.Nat.{_+_, _-_, _*_, _≤_}
 use native.Mathlib.Omega.{arith}
 use borrow.Author.Needs.{needs}
-use Rattle.convolution.specs.RecordBits.{bits-at}
+use Rattle.encoder.specs.Bits.{bits-at}
 use Rattle.convolution.specs.Loops.{eaten, eaten-fits, eaten-more, eaten-all}
 use Rattle.convolution.proofs.decoder.byte_of.Statement.{statement}
 use Rattle.convolution.proofs.decoder.byte_of.Tie as tie

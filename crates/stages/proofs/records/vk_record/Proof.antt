@@ -1,7 +1,7 @@
 -- The struct taken apart, field by field. Assumes nothing.
 use borrow.Author.Needs.{needs}
 use mathlib.Core.Path.{ap, _∙_}
-use Rattle.record.specs.declared.Built.{Built}
+use Rattle.build.specs.declared.Built.{Built}
 use Rattle.face.specs.Face.{codeOf, givenFor}
 use Rattle.stages.proofs.records.vk_record.Statement.{statement}
 use Rattle.stages.proofs.records.vk_record.Tie as tie

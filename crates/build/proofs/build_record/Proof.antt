@@ -1,0 +1,55 @@
+-- Each test of the definition is one of the code. Assumes nothing.
+use borrow.Author.Needs.{needs}
+use borrow.Author.Tests.{leb-true, not-true, not-false}
+use mathlib.Core.Path.{sym, _∙_}
+use Rattle.record.specs.Record.{builtOf}
+use Rattle.build.proofs.build_record.Statement.{statement}
+use Rattle.build.proofs.build_record.Tie as tie
+
+fits-requires : tie.Need-fits-requires
+fits-requires c κs = search needs
+
+not-built-requires : tie.Need-not-built-requires
+not-built-requires c κs = search needs
+
+returns : tie.Need-returns
+unfolding builtOf
+returns c = rw (c .not-built .ensures, ← c .before .before .fits2 .ensures, not-true (c .before .before .fits2 .result) (c .before .if1 .taken))
+
+counted-requires : tie.Need-counted-requires
+counted-requires c κs = search needs
+
+not-built-requires-2 : tie.Need-not-built-requires-2
+not-built-requires-2 c κs = search needs
+
+returns-2 : tie.Need-returns-2
+unfolding builtOf
+returns-2 c =
+    let test = c .before .before in
+    let fits = test .before .before .fits2 in
+    rw (c .not-built2 .ensures, ← fits .ensures, not-false (fits .result) (test .before .if1 .left), ← test .counted .ensures, not-true (test .counted .result) (c .before .if2 .taken))
+
+seal-requires : tie.Need-seal-requires
+seal-requires c κs =
+    let test = c .before .before .before in
+    leb-true _ _ (sym (test .fits2 .ensures) ∙ not-false (test .fits2 .result) (c .before .before .if1 .left))
+
+returns-3 : tie.Need-returns-3
+unfolding builtOf
+returns-3 c =
+    let test = c .before .before in
+    let fits = test .before .before .fits2 in
+    rw (c .seal .ensures, ← fits .ensures, not-false (fits .result) (test .before .if1 .left), ← test .counted .ensures, not-false (test .counted .result) (c .before .if2 .left))
+
+pub build-record-spec : {M : Type 1} → statement M
+build-record-spec =
+    tie.close
+    (tie.spec
+    fits-requires
+    not-built-requires
+    returns
+    counted-requires
+    not-built-requires-2
+    returns-2
+    seal-requires
+    returns-3)

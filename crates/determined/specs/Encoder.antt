@@ -1,0 +1,6 @@
+-- Crate `encoder`: each public function's promise determines its outcome. Assumes nothing.
+use Rattle.determined.specs.One.{Determined, one}
+use Rattle.encoder.proofs as encoder
+
+pub encode-one : Determined encoder.encode.ended encoder.encode.Reads.Post
+encode-one κs a x y p q i = (one p q i, x .1)

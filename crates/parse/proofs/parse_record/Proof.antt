@@ -1,0 +1,128 @@
+-- Each test of the definition is one of the code; behind them the mode says whether a key is given. Assumes nothing.
+use borrow.Author.Needs.{needs}
+use mathlib.Core.Path.{_≡_, sym, _∙_}
+use mathlib.Core.Bool.{true, false}
+use denote.Ref.{now}
+use lib.Dec.{eqb}
+use lib.ListN.{getD}
+use borrow.Author.Tests.{ne-eqb, not-true, not-false}
+use Rattle.record.specs.Record.{intact, parsedOf}
+use Rattle.parse.proofs.parse_record.Statement.{statement}
+use Rattle.parse.proofs.parse_record.Tie as tie
+
+whole : (c : tie.Else1) → intact 42 (now (c .before .before .before .before .args .bytes)) ≡ true
+whole c = sym (c .before .intact .ensures) ∙ not-false (c .before .intact .result) (c .if1 .left)
+
+element-copy-out-mode : tie.Need-element-copy-out-mode
+element-copy-out-mode c = search needs
+
+intact-requires : tie.Need-intact-requires
+intact-requires c κs = search needs
+
+not-read-requires : tie.Need-not-read-requires
+not-read-requires c κs = search needs
+
+returns : tie.Need-returns
+unfolding parsedOf
+returns c = rw (c .not-read .ensures, ← c .before .before .intact .ensures, not-true (c .before .before .intact .result) (c .before .if1 .taken))
+
+not-read-requires-2 : tie.Need-not-read-requires-2
+not-read-requires-2 c κs = search needs
+
+returns-2 : tie.Need-returns-2
+unfolding parsedOf
+returns-2 c = rw (c .not-read2 .ensures, whole (c .before .before), c .before .if2 .taken)
+
+needless-requires : tie.Need-needless-requires
+needless-requires c κs = search needs
+
+not-read-requires-3 : tie.Need-not-read-requires-3
+not-read-requires-3 c κs = search needs
+
+returns-3 : tie.Need-returns-3
+unfolding parsedOf
+returns-3 c =
+    let key = c .before .before in
+    let mode = key .before in
+    rw (c .not-read3 .ensures, whole (mode .before), mode .if2 .left, ← key .needless .ensures, c .before .if3 .taken)
+
+missing-requires : tie.Need-missing-requires
+missing-requires c κs = search needs
+
+number-at-requires : tie.Need-number-at-requires
+number-at-requires c κs = search needs
+
+not-read-requires-4 : tie.Need-not-read-requires-4
+not-read-requires-4 c κs = search needs
+
+returns-4 : tie.Need-returns-4
+unfolding parsedOf
+returns-4 c =
+    let asked = c .before .before .before in
+    let key = asked .before .before in
+    let mode = key .before .before in
+    rw (c .not-read4 .ensures, c .before .number-at .ensures, whole (mode .before), mode .if2 .left, ← key .before .needless .ensures, key .if3 .left, ← asked .before .missing .ensures, asked .if4 .taken)
+
+inside-requires : tie.Need-inside-requires
+inside-requires c κs = search needs
+
+returns-5 : tie.Need-returns-5
+unfolding parsedOf
+returns-5 c =
+    let plain = c .before .before in
+    let asked = plain .before in
+    let key = asked .before .before in
+    let mode = key .before .before in
+    let none : mode .before .before .before .before .before .args .key .given ≡ false = rw (plain .if5 .taken) at (sym (key .before .needless .ensures) ∙ key .if3 .left) in
+    rw (c .inside .ensures, whole (mode .before), mode .if2 .left, ← key .before .needless .ensures, key .if3 .left, ← asked .before .missing .ensures, asked .if4 .left, none)
+
+slice-aggregate-cover : tie.Need-slice-aggregate-cover
+slice-aggregate-cover c = search needs
+
+cover-requires : tie.Need-cover-requires
+cover-requires c κs = search needs
+
+slice-aggregate-inside : tie.Need-slice-aggregate-inside
+slice-aggregate-inside c = search needs
+
+inside-requires-2 : tie.Need-inside-requires-2
+inside-requires-2 c κs = search needs
+
+returns-6 : tie.Need-returns-6
+unfolding parsedOf
+returns-6 c =
+    let opened = c .before .before .before in
+    let keyed = opened .before .before .before .before in
+    let asked = keyed .before in
+    let key = asked .before .before in
+    let mode = key .before .before in
+    let start = mode .before .before .before .before .before in
+    let given = start .args .key .given in
+    let known = not-false (eqb (getD (now (start .args .bytes)) 0 0) 0x32) (rw (ne-eqb _ _ (keyed .if5 .left)) at (mode .if2 .left)) in
+    let one : given ≡ true = not-false given (rw known at (sym (asked .before .missing .ensures) ∙ asked .if4 .left)) in
+    rw (c .inside2 .ensures, opened .cover .ensures, whole (mode .before), mode .if2 .left, ← key .before .needless .ensures, key .if3 .left, ← asked .before .missing .ensures, asked .if4 .left, one)
+
+pub parse-record-spec : {M : Type 1} → statement M
+parse-record-spec =
+    tie.close
+    (tie.spec
+    element-copy-out-mode
+    intact-requires
+    not-read-requires
+    returns
+    not-read-requires-2
+    returns-2
+    needless-requires
+    not-read-requires-3
+    returns-3
+    missing-requires
+    number-at-requires
+    not-read-requires-4
+    returns-4
+    inside-requires
+    returns-5
+    slice-aggregate-cover
+    cover-requires
+    slice-aggregate-inside
+    inside-requires-2
+    returns-6)
