@@ -14,7 +14,8 @@ use Rattle.resample.specs.Resampled.{across}
 use Rattle.resample.specs.Tables.{Tables}
 use Rattle.resample.specs.Sums.{sumRows, sum-all}
 use Rattle.resample.specs.Kept.{Kept}
-use Rattle.lanes.specs.Lanes.{shareAt, cappedAt, capped-own, lumaLine, narrowFour}
+use Rattle.lanes.specs.Lanes.{shareAt, cappedAt, lumaLine, narrowFour}
+use Rattle.lanes.specs.Laws.{capped-own}
 
 -- a picture, the products of its luma, the taps of its rows, room for the lumas of four rows, and rows of it that are kept, four to a place
 pub record Narrowing (width height channels : ℕ) (samples : List ℕ) (shares : List Float) (offsets index : List ℕ) (weight line : List Float) (held : List ℕ) (rows : List Float) : Type 0 where

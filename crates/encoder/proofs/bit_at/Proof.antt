@@ -1,3 +1,4 @@
+-- By whether t lies in the record: its bit there, or one of the six zeros behind it. Assumes nothing.
 use mathlib.Core.Path.{sym}
 use Rattle.encoder.specs.Ccsds131.{sixZeros}
 use Rattle.encoder.specs.Bits.{bit-in, bit-out}

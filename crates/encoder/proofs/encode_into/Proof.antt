@@ -1,3 +1,5 @@
+-- After t turns the state is that after t bits, and the first 2 t outputs are those of t bits; the measure is what is
+-- left. Assumes nothing.
 use borrow.Author.Needs.{needs}
 use mathlib.Core.Path.{_≡_, refl, sym, ap, _∙_}
 use Prim.Native.Nat.{ℕ, _+_, _-_, _*_, _≤_, _<_}

@@ -1,3 +1,4 @@
+-- The count of ones, modulo 2, is the definition's parity. Assumes nothing.
 use mathlib.Core.Path.{refl}
 use Rattle.encoder.specs.Ccsds131.{parity}
 use borrow.Author.Needs.{needs}

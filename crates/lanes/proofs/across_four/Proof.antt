@@ -8,7 +8,8 @@ use lib.Ieee.{Float, nan}
 use denote.Ref.{now}
 use Rattle.seq.specs.Tab.{getD-tab}
 use Rattle.resample.specs.Resampled.{across}
-use Rattle.lanes.specs.Lanes.{lane, Behind, behind-more, behind-all}
+use Rattle.lanes.specs.Lanes.{lane}
+use Rattle.lanes.specs.Laws.{Behind, behind-more, behind-all}
 use borrow.Author.Needs.{needs}
 use Rattle.lanes.proofs.across_four.Statement.{statement}
 use Rattle.lanes.proofs.across_four.Tie as tie

@@ -5,7 +5,8 @@ use native.Mathlib.Omega.{arith}
 use lib.ListN.{length, length-set}
 use denote.Ref.{now}
 use Rattle.seq.specs.Tab.{filled, filled-none}
-use Rattle.lanes.specs.Lanes.{beside, one, filled-four}
+use Rattle.lanes.specs.Lanes.{beside, one}
+use Rattle.lanes.specs.Laws.{filled-four}
 use Rattle.resample.specs.Samples.{lumaAt}
 use Rattle.resample.specs.Pixels.{pixel-fits}
 use borrow.Author.Needs.{needs}

@@ -4,7 +4,8 @@ use Prim.Native.Nat.{_+_}
 use native.Mathlib.Omega.{arith}
 use lib.ListN.{length}
 use Rattle.seq.specs.Tab.{length-tab}
-use Rattle.lanes.specs.Lanes.{shareAt, luma-looked}
+use Rattle.lanes.specs.Lanes.{shareAt}
+use Rattle.lanes.specs.Laws.{luma-looked}
 use borrow.Author.Needs.{needs}
 use Rattle.lanes.proofs.luma_from.Statement.{statement}
 use Rattle.lanes.proofs.luma_from.Tie as tie

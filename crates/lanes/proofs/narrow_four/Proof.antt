@@ -5,7 +5,8 @@ use native.Mathlib.Omega.{arith}
 use lib.ListN.{length}
 use denote.Ref.{now}
 use Rattle.resample.specs.Pixels.{row-inside}
-use Rattle.lanes.specs.Lanes.{cappedAt, capped-below, part-long, own-part, line-found, narrowed-four}
+use Rattle.lanes.specs.Lanes.{cappedAt}
+use Rattle.lanes.specs.Laws.{capped-below, part-long, own-part, line-found, narrowed-four}
 use borrow.Author.Needs.{needs}
 use Rattle.lanes.proofs.narrow_four.Statement.{statement}
 use Rattle.lanes.proofs.narrow_four.Tie as tie

@@ -1,3 +1,4 @@
+-- The definition's three cases: below 0, a place of the row, behind its end. Assumes nothing.
 use mathlib.Core.Path.{_≡_}
 use mathlib.Core.Bool.{false}
 use native.Mathlib.Omega.{arith}

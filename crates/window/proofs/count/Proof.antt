@@ -1,3 +1,4 @@
+-- None where the last stands before the first; else the difference, which fits, and one. Assumes nothing.
 use mathlib.Core.Path.{_≡_, refl}
 use mathlib.Core.Bool.{false}
 use native.Mathlib.Numerals.{add-one}

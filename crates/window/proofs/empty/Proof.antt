@@ -1,3 +1,4 @@
+-- The fields are the definition's, computed. Assumes nothing.
 use mathlib.Core.Path.{refl}
 use lib.Ieee.{ofBits}
 use Rattle.window.proofs.empty.Statement.{statement}

@@ -1,3 +1,4 @@
+-- Both sides' tests are those of the definition's conjunction, by cases. Assumes nothing.
 use mathlib.Core.Path.{refl}
 use borrow.Author.Needs.{needs}
 use Rattle.window.proofs.has_window.Statement.{statement}

@@ -1,3 +1,4 @@
+-- The sum fits 64 bits, so that it comes back as it was. Assumes nothing.
 use native.Mathlib.Omega.{arith}
 use lib.IntN.{pos, _+ℤ_}
 use mir.Syntax.{w64}

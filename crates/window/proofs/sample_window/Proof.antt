@@ -1,3 +1,5 @@
+-- Sides and numbers are exact as floats; centre and support are the definition's, and the window's numbers are small
+-- enough to be summed over. Assumes nothing.
 use mathlib.Core.Path.{_≡_, _∙_, sym, ap, subst}
 use Prim.Native.Nat.{_^_}
 use native.Mathlib.Omega.{arith}

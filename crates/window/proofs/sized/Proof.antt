@@ -1,3 +1,4 @@
+-- By the test on n, as the definition's. Assumes nothing.
 use mathlib.Core.Path.{refl}
 use borrow.Author.Tests.{lt-ltb, le-ltb}
 use Rattle.window.proofs.sized.Statement.{statement}

@@ -1,3 +1,4 @@
+-- The ceiling and the floor are the definition's, and fit 64 bits. Assumes nothing.
 use mathlib.Core.Path.{refl}
 use lib.Ieee.{ofBits}
 use mir.Syntax.{w64}

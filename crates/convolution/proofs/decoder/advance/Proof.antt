@@ -1,3 +1,5 @@
+-- State k takes the better of its two predecessors: two loops, for the states below 32 and the others, fill the metrics
+-- and the decisions in the definition's order. Assumes nothing.
 use mathlib.Core.Path.{_≡_, refl}
 use Prim.Native.Nat.{_-_, _≤_}
 use native.Mathlib.Omega.{arith}

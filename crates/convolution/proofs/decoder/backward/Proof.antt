@@ -1,3 +1,5 @@
+-- From the end on: the state is where the decisions from t on begin, and the bits from t on are those of their path; the
+-- measure is t. Assumes nothing.
 use borrow.Author.Needs.{needs}
 use mathlib.Core.Path.{_≡_, refl, sym, ap, _∙_}
 use Prim.Native.Nat.{ℕ, suc, _+_, _-_, _*_, _/_, _%_, _≤_, _<_}

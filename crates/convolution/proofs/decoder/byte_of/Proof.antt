@@ -1,3 +1,4 @@
+-- After k turns the value is that of k bits, the highest first, which fits a byte. Assumes nothing.
 use mathlib.Core.Path.{_≡_, refl, ap, _∙_}
 use Prim.Native.Nat.{_+_, _-_, _*_, _≤_}
 use native.Mathlib.Omega.{arith}

@@ -1,3 +1,5 @@
+-- Forward, then backward from state 0, then the bytes: `decoded-by` makes of the two passes the definition's decoder.
+-- Assumes nothing.
 use mathlib.Core.Path.{ap, _∙_}
 use Rattle.convolution.specs.Decoder.{floats}
 use Rattle.convolution.specs.RecordBits.{recordOf}

@@ -1,3 +1,5 @@
+-- After t steps the metric is the definition's after the first 2 t votes, and the first t decisions are its. Assumes
+-- nothing.
 use borrow.Author.Needs.{needs}
 use mathlib.Core.Path.{_≡_, refl, sym, ap, _∙_}
 use Prim.Native.Nat.{ℕ, _+_, _-_, _*_, _≤_, _<_}

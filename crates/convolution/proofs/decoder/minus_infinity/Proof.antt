@@ -1,3 +1,4 @@
+-- -1 / 0 computes to minus infinity. Assumes nothing.
 use mathlib.Core.Path.{refl}
 use lib.Ieee.{div, neg, ofBits}
 use Rattle.convolution.proofs.decoder.minus_infinity.Statement.{statement}

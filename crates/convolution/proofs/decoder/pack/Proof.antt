@@ -1,3 +1,4 @@
+-- Byte by byte, the first i are those of the definition's record. Assumes nothing.
 use borrow.Author.Needs.{needs}
 use mathlib.Core.Path.{_≡_, refl, _∙_}
 use Prim.Native.Nat.{_-_, _≤_}

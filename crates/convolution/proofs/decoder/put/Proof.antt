@@ -1,3 +1,4 @@
+-- A decision of 0 or 1, shifted to place k, adds to the decisions below k, which fill k bits. Assumes nothing.
 use mathlib.Core.Path.{ap}
 use Prim.Native.Nat.{ℕ, _+_}
 use Rattle.convolution.specs.Packed.{put-exact, put-fits}

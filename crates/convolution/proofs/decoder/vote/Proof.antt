@@ -1,3 +1,4 @@
+-- By the coded bit: a 0 leaves the vote as it is, a 1 turns it. Assumes nothing.
 use mathlib.Core.Path.{sym}
 use Rattle.convolution.specs.Tables.{voted-one}
 use borrow.Author.Needs.{needs}

@@ -1,3 +1,4 @@
+-- Entry k of the table is the definition's first output of register 2 k. Assumes nothing.
 use Rattle.convolution.specs.Tables.{outs1, table1}
 use borrow.Author.Needs.{needs}
 use Rattle.convolution.proofs.outputs.first_out.Statement.{statement}

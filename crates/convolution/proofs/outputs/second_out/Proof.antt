@@ -1,3 +1,4 @@
+-- Entry k of the table is the definition's second output of register 2 k. Assumes nothing.
 use Rattle.convolution.specs.Tables.{outs2, table2}
 use borrow.Author.Needs.{needs}
 use Rattle.convolution.proofs.outputs.second_out.Statement.{statement}

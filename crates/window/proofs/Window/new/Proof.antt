@@ -1,3 +1,4 @@
+-- Where there is a window it is `sample_window`'s, and else the empty one. Assumes nothing.
 use mathlib.Core.Path.{_∙_, sym}
 use Rattle.float.specs.Base.{yes}
 use Rattle.window.specs.Window.{windowOf}

@@ -1,3 +1,4 @@
+-- The sum of the tents is put into the window; first and last come back as they were. Assumes nothing.
 use mathlib.Core.Path.{refl}
 use mir.Syntax.{w64}
 use mir.ValLaws.{toZ-ofZ}

@@ -1,3 +1,4 @@
+-- One step of the definition for each call; the number comes back as it was, since it fits 64 bits. Assumes nothing.
 use mir.Syntax.{w64}
 use mir.ValLaws.{toZ-ofZ}
 use lib.Ieee.{ofBits}

@@ -1,3 +1,4 @@
+-- By whether the tent is above zero, as the definition is. Assumes nothing.
 use mathlib.Core.Path.{_≡_, _∙_, ap, refl}
 use lib.IntN.{ℤ}
 use lib.Ieee.{ofBits}
