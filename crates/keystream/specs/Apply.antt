@@ -1,5 +1,5 @@
 -- A request for keystream, and its end. RFC 8439 counts blocks in 32 bits and document 01 starts at block 0, so the
--- keystream has 2^32 blocks of 64 bytes, 2^38 bytes. Assumes nothing.
+-- keystream has 2^32 blocks of 64 bytes, 2^38 bytes. Definitions only.
 use mathlib.Core.Bool.{Bool, cond}
 use mathlib.Core.List.{List}
 use Prim.Native.Nat.{ℕ, _+_, _-_, _^_}
