@@ -1,4 +1,5 @@
--- The sample sheet's line on the text's length, computed: a text of 32 bytes passes, one of 33 is refused with 1 and 33. Assumes nothing.
+-- The sample sheet's line on the text's length, computed: a text of 32 bytes passes, one of 33 is refused with 1 and 33.
+-- Assumes nothing.
 use mathlib.Core.Path.{_≡_, refl}
 use mathlib.Core.List.{List, []}
 use Prim.Native.Nat.{ℕ}

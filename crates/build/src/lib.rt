@@ -75,6 +75,7 @@ fn seal(text: &[u8], lock: Lock) -> [u8; SIZE]
     bytes
 }
 
+// What is refused: no record, and the refusal.
 fn not_built(r: Refusal) -> Built
     ensures { λ b. ⌜ b ≡ builtAs (Outcome.refused r) ⌝ }
 {
@@ -84,6 +85,7 @@ fn not_built(r: Refusal) -> Built
     }
 }
 
+// Whether the record has room for the text.
 fn fits(text: &[u8]) -> bool
     ensures { λ r. ⌜ r ≡ leb (length (now (text .entry))) (short .room) ⌝ }
 {

@@ -30,7 +30,7 @@ unfolding serialized littleEndian
 length-serialized [] = refl
 length-serialized (w ∷ ws) = let h : length (serialized ws) ≡ 4 * length ws = length-serialized ws in omega arith
 
-pub length-block : (key : List ℕ) (counter : ℕ) (nonce : List ℕ) → length (blockOf key counter nonce) ≡ 64
+length-block : (key : List ℕ) (counter : ℕ) (nonce : List ℕ) → length (blockOf key counter nonce) ≡ 64
 unfolding blockOf blockFrom sums
 length-block key counter nonce = length-serialized _ ∙ ap (λ n. 4 * n) (length-tab _ 16)
 

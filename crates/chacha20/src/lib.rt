@@ -1,5 +1,5 @@
-// ChaCha20's block function from RFC 8439, sections 2.1 to 2.3. For the keystream and the dither.
-// Everything is held to specs/Rfc8439.antt, which is that document's text as a definition; the
+// ChaCha20's block function from RFC 8439, sections 2.1 to 2.3. For the keystream and the dither; `little_endian`
+// for all that read words. Everything is held to specs/Rfc8439.antt, which is that document's text as a definition; the
 // numbers in the comments are its sections.
 ghost use mathlib.Core.Path.{_≡_};
 ghost use Prim.Native.Nat.{_+_, _*_, _^_, _<_};

@@ -1,4 +1,6 @@
--- The convolutional code of CCSDS 131.0-B, section 3: rate 1/2, constraint length 7, generators G1 = 171 and G2 = 133 octal, over a list of bits of any length. The book inverts the second output; this port, as the Rust, does not. Definitions only.
+-- The convolutional code of CCSDS 131.0-B, section 3: rate 1/2, constraint length 7, generators G1 = 171 and G2 = 133
+-- octal, over a list of bits of any length. The book inverts the second output; this port, as the Rust, does not.
+-- Definitions only.
 use mathlib.Core.List.{List, [], _∷_}
 use Prim.Native.Nat.{ℕ, _+_, _*_, _/_, _%_, _<_}
 use lib.Count.{ones}
@@ -44,7 +46,7 @@ sixZeros = 0 ∷ 0 ∷ 0 ∷ 0 ∷ 0 ∷ 0 ∷ []
 unfoldable pub encodeOf : List ℕ → List ℕ
 encodeOf r = code 0 (bitsOf r sixZeros)
 
--- bits, and a state after bits
+-- a list of bits
 pub data Bits : List ℕ → Type 0 where
   none : Bits []
   one : {b : ℕ} {bs : List ℕ} → b < 2 → Bits bs → Bits (b ∷ bs)

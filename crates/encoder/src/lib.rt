@@ -7,6 +7,7 @@ ghost use Prim.Native.Nat.{_+_, _*_, _≤_};
 ghost use lib.ListN.{length, getD};
 ghost use Rattle.encoder.specs.Ccsds131.{parity, encodeOf, bitsOf, sixZeros};
 
+// The generators, as octal numbers: the bits of the register that an output is the parity of.
 const GENERATOR_0: u32 = 0o171;
 
 const GENERATOR_1: u32 = 0o133;
@@ -20,6 +21,7 @@ pub fn encode(bytes: &[u8; 46]) -> [u8; 748]
     coded
 }
 
+// The same for a record of any length, into as many places as it has coded bits.
 fn encode_into(bytes: &[u8], coded: &mut [u8])
     requires { ⌜ (length (now coded) ≡ 16 * length (now bytes) + 12) × (length (now bytes) ≤ 4096) ⌝ }
     ensures { λ _. ⌜ now (coded .exit) ≡ encodeOf (now (bytes .entry)) ⌝ }

@@ -14,6 +14,7 @@ ghost use lib.ListN.{length};
 ghost use Rattle.record.specs.Record.{short, size, zeros, sound, insideOf};
 ghost use Rattle.record.specs.Answers.{readAs};
 
+// Whether the padding is what it must be.
 fn all_zero(bytes: &[u8]) -> bool
     ensures { λ r. ⌜ r ≡ zeros (now (bytes .entry)) ⌝ }
 {

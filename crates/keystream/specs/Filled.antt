@@ -8,7 +8,7 @@ use Rattle.seq.specs.Tab.{tab, length-tab, tab-same, filled, filled-more, tab-a
 
 module _ {A : Type 0} where
   -- the places that are not filled yet hold what they held
-  pub filled-next : (f : ℕ → A) (n : ℕ) (d : List A) (z : A) → n < length d → getD (filled f n d) n z ≡ getD d n z
+  filled-next : (f : ℕ → A) (n : ℕ) (d : List A) (z : A) → n < length d → getD (filled f n d) n z ≡ getD d n z
   unfolding filled
   filled-next f n d z h = rw (drop-cons d n z h) (getD-at (tab f n) (getD d n z) (drop (suc n) d) z n (length-tab f n))
 

@@ -1,5 +1,5 @@
--- What callers use of `apply`: when it is granted, that twice is never, that parts make the whole, and that lengths and
--- bytes are kept. Assumes nothing.
+-- What callers use of `apply`: when it is granted, that twice is never, that parts make the whole, that lengths are kept,
+-- and that zeros become the keystream. Assumes nothing.
 use mathlib.Core.Path.{_≡_, refl, _∙_, ap, ap₂}
 use mathlib.Core.List.{List, _++_}
 use Prim.Native.Nat.{ℕ, zero, suc, _+_, _*_, _/_, _%_, _≤_, _<_}
@@ -75,7 +75,7 @@ module _ (key nonce : List ℕ) where
   unfolding encrypted xored
   length-encrypted p bs = length-tab _ (length bs)
 
-  pub getD-encrypted : (p : ℕ) (bs : List ℕ) (k : ℕ) → k < length bs → getD (encrypted key nonce p bs) k 0 ≡ bitXor (getD bs k 0) (keystream key nonce (p + k))
+  getD-encrypted : (p : ℕ) (bs : List ℕ) (k : ℕ) → k < length bs → getD (encrypted key nonce p bs) k 0 ≡ bitXor (getD bs k 0) (keystream key nonce (p + k))
   unfolding encrypted xored
   getD-encrypted p bs k h = getD-tab _ (length bs) k 0 h
 
@@ -90,7 +90,7 @@ module _ (key nonce : List ℕ) where
       getD-encrypted p once k k₁ ∙ (ap (λ (b : ℕ). bitXor b (keystream key nonce (p + k))) (getD-encrypted p bs k k₀) ∙ xor-twice (getD bs k 0) (keystream key nonce (p + k))))
 
   -- a list in two parts, the second from the position after the first
-  pub encrypted-append : (p : ℕ) (xs ys : List ℕ) → encrypted key nonce p (xs ++ ys) ≡ encrypted key nonce p xs ++ encrypted key nonce (p + length xs) ys
+  encrypted-append : (p : ℕ) (xs ys : List ℕ) → encrypted key nonce p (xs ++ ys) ≡ encrypted key nonce p xs ++ encrypted key nonce (p + length xs) ys
   unfolding encrypted xored
   encrypted-append p xs ys =
       ap (tab (λ k. bitXor (getD (xs ++ ys) k 0) (keystream key nonce (p + k)))) (length-append xs ys)

@@ -22,6 +22,7 @@ fn from_big_endian(a: u8, b: u8, c: u8, d: u8) -> u32
     (a as u32) * 0x100_0000 + (b as u32) * 0x1_0000 + (c as u32) * 0x100 + (d as u32)
 }
 
+// The number that four bytes from place k on are.
 pub fn number_at(bytes: &[u8], k: usize) -> u32
     requires { ⌜ k + 4 ≤ length (now bytes) ⌝ }
     ensures { λ r. ⌜ r ≡ numberAt k (now (bytes .entry)) ⌝ }

@@ -45,6 +45,7 @@ pub struct Key {
     pub bytes: [u8; 32],
 }
 
+// Whether it was done, or else why not.
 pub enum Answer {
     Done,
     Refused(Refusal),

@@ -1,5 +1,5 @@
-// Runs the vectors of RFC 8439 and the end of the keystream through `chacha20`, and says of each
-// whether the answer and the bytes are the ones expected.
+// Runs the vectors of RFC 8439 and the end of the keystream through `chacha20` and
+// `keystream`, and says of each whether the answer and the bytes are the ones expected.
 use keystream::Applied;
 use libc::STDOUT_FILENO;
 ghost use Prim.Native.Nat.{_<_};

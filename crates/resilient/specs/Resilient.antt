@@ -1,4 +1,5 @@
--- Writing a text into a picture and reading it from a picture: from the scope paper, "What is said when nothing can be done". The first refusal that applies is given. Definitions only.
+-- Writing a text into a picture and reading it from a picture: from the scope paper, "What is said when nothing can be
+-- done". The first refusal that applies is given. Definitions only.
 use mathlib.Core.List.{List}
 use Prim.Native.Nat.{ℕ}
 use lib.ListN.{length}

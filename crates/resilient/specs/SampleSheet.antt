@@ -1,4 +1,5 @@
--- The sample sheet of the scope paper: every line that it marks as proved, in one statement, computed over the definitions. Assumes nothing.
+-- The sample sheet of the scope paper: every line that it marks as proved, in one statement, computed over the
+-- definitions. Assumes nothing.
 use mathlib.Core.Path.{_≡_, refl}
 use mathlib.Core.List.{List, [], _∷_, _++_}
 use Prim.Native.Nat.{ℕ, _+_, _*_}

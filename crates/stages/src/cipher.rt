@@ -1,4 +1,4 @@
-// Crate `chacha20`.
+// Crates `chacha20` and `keystream`.
 use keystream::Applied;
 ghost use mathlib.Core.Path.{_≡_};
 ghost use lib.ListN.{length};

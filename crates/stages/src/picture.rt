@@ -1,4 +1,4 @@
-// Crates `window`, `resample`, `downsample` and `upsample`.
+// Crates `window`, `resample`, `lanes`, `downsample` and `upsample`.
 use window::Weight;
 use window::Window;
 ghost use mathlib.Core.Path.{_≡_};

@@ -1,4 +1,5 @@
--- Reading a text from votes: from the scope paper, "What is said when nothing can be done". The first refusal that applies is given. Definitions only.
+-- Reading a text from votes: from the scope paper, "What is said when nothing can be done". The first refusal that
+-- applies is given. Definitions only.
 use mathlib.Core.Bool.{not, cond}
 use mathlib.Core.List.{List, [], _∷_}
 use Prim.Native.Nat.{ℕ, zero, suc}
@@ -13,9 +14,12 @@ use Rattle.record.specs.Record.{short, Outcome, refused, parsedOf}
 use Rattle.record.specs.Answers.{readAs}
 use Rattle.convolution.specs.Demand3.{decodedFrom}
 
--- what is read in the record that the votes decode to
+-- what the record says that the votes decode to, and what is read in it
+abbrev pub decodedOutcome : List Float → Key → Outcome
+decodedOutcome votes key = parsedOf short (decodedFrom votes) key
+
 abbrev pub textOf : List Float → Key → Reading
-textOf votes key = readAs (parsedOf short (decodedFrom votes) key)
+textOf votes key = readAs (decodedOutcome votes key)
 
 -- a vote for each of the picture's blocks
 abbrev pub blocks : ℕ
@@ -31,7 +35,7 @@ unfoldable pub votesOutcome : List Float → Key → Outcome
 votesOutcome votes key =
     cond (not (eqb (length votes) blocks)) (refused (BadLength (length votes)))
     (cond (ltb (goodVotes votes) blocks) (refused (BadVote (goodVotes votes)))
-    (parsedOf short (decodedFrom votes) key))
+    (decodedOutcome votes key))
 
 -- the answer: a refusal comes with length 0 and zeros for a text
 unfoldable pub votesReading : List Float → Key → Reading

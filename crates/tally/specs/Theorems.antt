@@ -14,8 +14,8 @@ use Rattle.record.specs.declared.Key.{Key}
 use Rattle.record.specs.Record.{short, gives, parsedOf}
 use Rattle.record.specs.Answers.{readAs}
 use Rattle.convolution.specs.Damage.{Fate, kept, zeroed, turned, votedF, zeros, turns}
-use Rattle.convolution.specs.Demand3.{IsRecord, Laid, bitIn, decodedFrom, corrects}
-use Rattle.tally.specs.Tally.{blocks, goodVotes, votesOutcome, votesReading}
+use Rattle.convolution.specs.Demand3.{IsRecord, Laid, bitIn, corrects}
+use Rattle.tally.specs.Tally.{blocks, goodVotes, decodedOutcome, votesOutcome, votesReading}
 
 -- ---- votes that are all good
 
@@ -25,7 +25,7 @@ all-good [] good = refl
 all-good (v ∷ vs) good = rw (good zero (omega arith), all-good vs (λ b h. good (suc b) (omega arith)))
 
 -- and a reader gets to the record
-pub reads-on : (votes : List Float) (key : Key) → length votes ≡ blocks → goodVotes votes ≡ length votes → votesOutcome votes key ≡ parsedOf short (decodedFrom votes) key
+pub reads-on : (votes : List Float) (key : Key) → length votes ≡ blocks → goodVotes votes ≡ length votes → votesOutcome votes key ≡ decodedOutcome votes key
 unfolding votesOutcome
 reads-on votes key many good = rw (eq-eqb (length votes) blocks many, le-ltb (goodVotes votes) blocks (omega (arith, good, many)))
 
