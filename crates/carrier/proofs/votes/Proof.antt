@@ -1,13 +1,9 @@
 -- The plane is put back into the work area, which is then cleared. Assumes nothing.
-use mathlib.Core.Path.{_≡_, _∙_, ap}
-use mathlib.Core.List.{_++_}
-use Prim.Native.Nat.{ℕ}
-use native.Mathlib.Omega.{arith}
-use lib.ListN.{length, drop, replicate, length-append, length-drop}
+use mathlib.Core.Path.{_∙_}
 use lib.Ieee.{ofBits}
 use denote.Ref.{now}
-use Rattle.float.specs.Base.{zero+}
 use borrow.Author.Needs.{needs}
+use Rattle.carrier.specs.Laws.{put-back-cleared}
 use Rattle.carrier.proofs.votes.Statement.{statement}
 use Rattle.carrier.proofs.votes.Tie as tie
 
@@ -36,8 +32,7 @@ returns c =
     let put = c .before .before .before .before .before .before .plane-votes in
     let plane = put .last .1 .1 .0 in
     let work = now (start .args .work) in
-    let long : length (plane ++ drop 65536 work) ≡ length work = omega (arith, length-append plane (drop 65536 work), put .ensures .0, length-drop 65536 work, start .pre .1) in
-    (put .ensures .1, c .before .before .zero-floats .ensures ∙ ap (λ (n : ℕ). replicate n zero+) long)
+    (put .ensures .1, c .before .before .zero-floats .ensures ∙ put-back-cleared plane work (put .ensures .0) (start .pre .1))
 
 pub votes-spec : {M : Type 1} → statement M
 votes-spec =
