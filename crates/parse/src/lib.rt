@@ -15,9 +15,17 @@ use refusal::Refusal;
 ghost use mathlib.Core.Path.{_≡_};
 ghost use mathlib.Core.Bool.{not, _&&_};
 ghost use lib.Dec.{eqb};
-ghost use lib.ListN.{getD};
-ghost use Rattle.record.specs.Record.{short, parsedOf};
+ghost use lib.ListN.{length, getD};
+ghost use Rattle.record.specs.Record.{short, outerAt, size, intact, parsedOf};
 ghost use Rattle.record.specs.Answers.{readAs};
+
+// The outer CRC is right.
+fn whole(bytes: &[u8]) -> bool
+    requires { ⌜ length (now bytes) ≡ size short ⌝ }
+    ensures { λ r. ⌜ r ≡ intact (outerAt short) (now (bytes .entry)) ⌝ }
+{
+    crc::intact(bytes, OUTER)
+}
 
 // A key is given for a plain record.
 fn needless(bytes: &[u8; SIZE], given: bool) -> bool
@@ -40,7 +48,7 @@ pub fn parse_record(bytes: &[u8; SIZE], key: Key) -> Reading
 {
     let mode = bytes[0];
     let given = key.given;
-    if !crc::intact(bytes, OUTER) {
+    if !whole(bytes) {
         return not_read(Refusal::NoWatermark);
     }
     if !((mode == PLAIN) | (mode == KEYED)) {

@@ -11,20 +11,20 @@ use Rattle.parse.proofs.parse_record.Statement.{statement}
 use Rattle.parse.proofs.parse_record.Tie as tie
 
 whole : (c : tie.Else1) → intact 42 (now (c .before .before .before .before .args .bytes)) ≡ true
-whole c = sym (c .before .intact .ensures) ∙ not-false (c .before .intact .result) (c .if1 .left)
+whole c = sym (c .before .whole .ensures) ∙ not-false (c .before .whole .result) (c .if1 .left)
 
 element-copy-out-mode : tie.Need-element-copy-out-mode
 element-copy-out-mode c = search needs
 
-intact-requires : tie.Need-intact-requires
-intact-requires c κs = search needs
+whole-requires : tie.Need-whole-requires
+whole-requires c κs = search needs
 
 not-read-requires : tie.Need-not-read-requires
 not-read-requires c κs = search needs
 
 returns : tie.Need-returns
 unfolding parsedOf
-returns c = rw (c .not-read .ensures, ← c .before .before .intact .ensures, not-true (c .before .before .intact .result) (c .before .if1 .taken))
+returns c = rw (c .not-read .ensures, ← c .before .before .whole .ensures, not-true (c .before .before .whole .result) (c .before .if1 .taken))
 
 not-read-requires-2 : tie.Need-not-read-requires-2
 not-read-requires-2 c κs = search needs
@@ -107,7 +107,7 @@ parse-record-spec =
     tie.close
     (tie.spec
     element-copy-out-mode
-    intact-requires
+    whole-requires
     not-read-requires
     returns
     not-read-requires-2
