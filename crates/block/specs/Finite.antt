@@ -1,5 +1,5 @@
 -- Bounds through the transforms, the marking and the vote. `Each x a`: the block's 64 values are finite and at most a in size. A pass gives each value as a sum of eight products with a constant that is at most 1/2, so at most 4 a; a transform is two passes.
--- Marking moves a coefficient by less than its step and a little. The vote of a block of such values lies from -1 to 1. A bound is n * 2 ^ k with n small enough that the format holds the sums, so 2 ^ 20, which bounds a plane of 8-bit samples, is one. Assumes nothing.
+-- Marking moves a coefficient by less than its step and a little. The vote of a block of such values lies from -1 to 1. A bound is n * 2 ^ k with n small enough that the format holds the sums, so 2 ^ 20, which bounds a plane of 8-bit samples, is one.
 use mathlib.Core.Path.{_≡_, refl, sym, _∙_, ap, subst}
 use mathlib.Core.Logic.{inl, inr}
 use mathlib.Core.Bool.{Bool, true, false, not}
@@ -22,9 +22,9 @@ use Rattle.float.specs.Bounds.{Within, Holds, holds-whole, within-more, within-
 use Rattle.float.specs.Shifted.{Room, holds-shifted, holds-power, room-shifted}
 use Rattle.float.specs.Calls.{roundAway}
 use Rattle.float.specs.Vote.{term, meanOfFour, term-within, mean-within}
-use Rattle.transform.specs.Grid.{cell, cell-grid}
-use Rattle.transform.specs.Matrix.{matrix, entry, turnedEntry}
-use Rattle.transform.specs.Transform.{sumOf, throughRows, throughColumns, forwardOf, inverseOf}
+use Rattle.dct.specs.Grid.{cell, cell-grid}
+use Rattle.dct.specs.Matrix.{matrix, entry, turnedEntry}
+use Rattle.dct.specs.Dct.{sumOf, throughRows, throughColumns, forwardOf, inverseOf}
 use Rattle.block.specs.Plane.{lineAt, loadOf, line-fits}
 use Rattle.block.specs.Mark.{coefficients, step, halfOf, markedOf, markedBlock}
 use Rattle.block.specs.Soft.{termOf, voteOf}

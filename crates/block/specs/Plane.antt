@@ -1,4 +1,4 @@
--- Block b of the 256 x 256 plane, which stands first in the work area: at block row b / 32 and block column b % 32. What is loaded, what a store leaves, and that a store changes those 64 places and no other. Assumes nothing.
+-- Block b of the 256 x 256 plane, which stands first in the work area: at block row b / 32 and block column b % 32. What is loaded, what a store leaves, and that a store changes those 64 places and no other.
 use mathlib.Core.Path.{_≡_, refl, sym, _∙_}
 use mathlib.Core.Logic.{_⊎_, inl, inr}
 use mathlib.Core.Bool.{Bool, true, false, not}
@@ -10,8 +10,8 @@ use lib.ListN.{length, getD}
 use lib.Ieee.{Float, nan}
 use Rattle.seq.specs.Tab.{length-tab, getD-tab}
 use Rattle.seq.specs.Lines.{pasted, length-pasted, pasted-at, pasted-other}
-use Rattle.transform.specs.Grid.{grid, grid-same, cell, lineOf}
-use Rattle.transform.specs.Columns.{columns-all}
+use Rattle.dct.specs.Grid.{grid, grid-same, cell, lineOf}
+use Rattle.dct.specs.Columns.{columns-all}
 
 -- the place of line r of block b
 abbrev pub lineAt : ℕ → ℕ → ℕ

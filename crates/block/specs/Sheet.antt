@@ -1,4 +1,4 @@
--- The lines of the sample sheet on marking and voting, computed: v = 8, u = 0, bit 0 gives 16, v = -8 gives -16, v = 8, bit 1 gives 8; v = 8, u = 0 has the term -1, v = 4 the term 0, and a tiny negative x, whose r is exactly 1, the term 1. Assumes nothing.
+-- The lines of the sample sheet on marking and voting, computed: v = 8, u = 0, bit 0 gives 16, v = -8 gives -16, v = 8, bit 1 gives 8; v = 8, u = 0 has the term -1, v = 4 the term 0, and a tiny negative x, whose r is exactly 1, the term 1.
 use mathlib.Core.Path.{_≡_, refl}
 use lib.Ieee.{binary32, ofBits, sub}
 use Rattle.float.specs.Base.{zero+, two-to, minus-two-to}

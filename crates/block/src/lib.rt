@@ -12,7 +12,7 @@ ghost use Prim.Native.Nat.{_≤_, _<_};
 ghost use lib.ListN.{length, getD};
 ghost use lib.Ieee.{nan, binary32};
 ghost use Rattle.float.specs.Vote.{meanOfFour};
-ghost use Rattle.transform.specs.Grid.{cell, lineOf};
+ghost use Rattle.dct.specs.Grid.{cell, lineOf};
 ghost use Rattle.block.specs.Mark.{markedOf, markedBlock};
 ghost use Rattle.block.specs.Soft.{termOf, voteOf};
 ghost use Rattle.block.specs.Plane.{lineAt, loadOf, storedOf};

@@ -5,8 +5,8 @@ use lib.ListN.{length, replicate}
 use lib.Ieee.{Float}
 use Rattle.float.specs.Base.{zero+}
 use Rattle.resample.specs.Samples.{planeOf, changedOf}
-use Rattle.marking.specs.Marking.{changeOf, votesOf}
-use Rattle.picture.specs.declared.Picture.{Picture}
+use Rattle.plane.specs.Plane.{changeOf, votesOf}
+use Rattle.admission.specs.declared.Picture.{Picture}
 
 -- the work area after use
 abbrev pub cleared : List Float → List Float

@@ -1,4 +1,4 @@
--- A work area into which a plane was put back is cleared as the one that was lent. Assumes nothing.
+-- A work area into which a plane was put back is cleared as the one that was lent.
 use mathlib.Core.Path.{_≡_, ap}
 use mathlib.Core.List.{List, _++_}
 use Prim.Native.Nat.{ℕ, _≤_}

@@ -1,7 +1,7 @@
 // A picture as the carrier of 1,024 bits, in a lent work area: the bits of its blocks put into its samples, and its blocks'
 // votes on the bits that they carry. For the crate `resilient`, which refuses before; the promises are equations over
 // the definitions in specs/Carrier.antt.
-use picture::Picture;
+use admission::Picture;
 ghost use mathlib.Core.Path.{_≡_};
 ghost use Prim.Native.Nat.{_≤_};
 ghost use lib.ListN.{length};
@@ -20,9 +20,9 @@ fn put_bits(samples: &mut [u8], p: Picture, bits: &[u8; BLOCKS], plane: &mut [f3
     ensures length { λ _. ⌜ length (now (plane .exit)) ≡ 65536 ⌝ }
     ensures marked { λ _. ⌜ now (samples .exit) ≡ markedSamples p (now (bits .entry)) (now (samples .entry)) ⌝ }
 {
-    downsample::plane(samples, p.width, p.height, p.channels, plane);
-    marking::embed_bits(plane, bits);
-    upsample::change_samples(plane, p.width, p.height, p.channels, samples);
+    resample_down::plane(samples, p.width, p.height, p.channels, plane);
+    plane::embed_bits(plane, bits);
+    resample_up::change_samples(plane, p.width, p.height, p.channels, samples);
 }
 
 // The bits of a picture's blocks put into its samples, in a work area that has room for the plane and ends as zeros.
@@ -41,8 +41,8 @@ fn plane_votes(samples: &[u8], p: Picture, plane: &mut [f32]) -> [f32; BLOCKS]
     ensures length { λ _. ⌜ length (now (plane .exit)) ≡ 65536 ⌝ }
     ensures votes { λ r. ⌜ r ≡ pictureVotes p (now (samples .entry)) ⌝ }
 {
-    downsample::plane(samples, p.width, p.height, p.channels, plane);
-    marking::block_soft(plane)
+    resample_down::plane(samples, p.width, p.height, p.channels, plane);
+    plane::block_soft(plane)
 }
 
 // The votes of the picture's blocks, in a work area that has room for the plane and ends as zeros.

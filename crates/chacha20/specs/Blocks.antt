@@ -1,4 +1,4 @@
--- Blocks: their bytes word by word, how many there are, and that the keystream is one block after the other. Assumes nothing.
+-- Blocks: their bytes word by word, how many there are, and that the keystream is one block after the other.
 use mathlib.Core.Path.{_≡_, refl, sym, _∙_, ap, ap₂}
 use mathlib.Core.List.{List, [], _∷_, _++_, append-assoc, append-nil}
 use Prim.Native.Nat.{ℕ, zero, suc, _+_, _*_, _/_, _%_, _<_}

@@ -1,4 +1,4 @@
--- The worked examples of RFC 8439, computed by the definitions. Assumes nothing.
+-- The worked examples of RFC 8439, computed by the definitions.
 use mathlib.Core.Path.{_≡_, refl}
 use mathlib.Core.List.{List, [], _∷_}
 use Prim.Native.Nat.{ℕ}

@@ -1,5 +1,5 @@
 -- The quarter rounds of a diagonal round share no word, so that they may be worked in another order than the one they are
--- listed in. Assumes nothing.
+-- listed in.
 use mathlib.Core.Path.{_≡_, refl, subst}
 use mathlib.Core.List.{List}
 use Prim.Native.Nat.{ℕ}

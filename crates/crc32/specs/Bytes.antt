@@ -1,5 +1,5 @@
 -- The register over bytes: the first bits of a message are looked up at once, for all the turns that they still have to go,
--- and the rest of the message goes on with the rest of the register. Assumes nothing.
+-- and the rest of the message goes on with the rest of the register.
 use mathlib.Core.Path.{_≡_, refl, sym, ap, ap₂, _∙_}
 use mathlib.Core.Bool.{Bool}
 use mathlib.Core.List.{List, [], _∷_, _++_, append-assoc}

@@ -1,5 +1,5 @@
 -- Long division gives THE remainder: the dividend is quotient times divisor plus remainder, and whatever quotient and
--- remainder a dividend is made of, the division finds that remainder. Assumes nothing.
+-- remainder a dividend is made of, the division finds that remainder.
 use mathlib.Core.Path.{_≡_, refl, ap, ap₂, _∙_}
 use mathlib.Core.Bool.{Bool, true, false, _&&_}
 use mathlib.Core.List.{List, [], _∷_, _++_, tail}

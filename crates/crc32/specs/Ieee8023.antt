@@ -1,5 +1,5 @@
 -- CRC-32 as IEEE Std 802.3 defines it in 3.2.9 (Frame Check Sequence field). A list of bits is read as a polynomial over
--- GF(2): the bits are its coefficients, that of the highest power first. Assumes nothing.
+-- GF(2): the bits are its coefficients, that of the highest power first.
 use mathlib.Core.Bool.{Bool, true, false, not, cond, _&&_, _||_}
 use mathlib.Core.List.{List, [], _∷_, _++_, map, tail}
 use Prim.Native.Nat.{ℕ, zero, suc, _+_, _*_, _/_, _%_}

@@ -1,5 +1,5 @@
 -- Bits and the numbers that have them: sums of polynomials are exclusive ors of numbers, which is therefore associative, and
--- bits behind others count by their place. Assumes nothing.
+-- bits behind others count by their place.
 use mathlib.Core.Path.{_≡_, refl, sym, ap, ap₂, _∙_}
 use mathlib.Core.Bool.{Bool, true, false, cond}
 use mathlib.Core.List.{List, [], _∷_, _++_}

@@ -1,6 +1,5 @@
 -- The shift register: the remainder, as a number whose low bit is the leading coefficient, is found by feeding the message's
 -- bits one after the other. What is left of the dividend is the rest of the message, with the register added at its front.
--- Assumes nothing.
 use mathlib.Core.Path.{_≡_, refl, sym, ap, _∙_}
 use mathlib.Core.Bool.{Bool, true, false, cond}
 use mathlib.Core.List.{List, [], _∷_, _++_, tail}

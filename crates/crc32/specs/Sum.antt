@@ -1,4 +1,4 @@
--- Laws of the sum of polynomials. Assumes nothing.
+-- Laws of the sum of polynomials.
 use mathlib.Core.Path.{_≡_, refl, ap, ap₂}
 use mathlib.Core.Bool.{Bool, true, false}
 use mathlib.Core.List.{List, [], _∷_}

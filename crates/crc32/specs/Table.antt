@@ -1,4 +1,4 @@
--- The table of the register's turns, and what stands at a place of it. Assumes nothing.
+-- The table of the register's turns, and what stands at a place of it.
 use mathlib.Core.Path.{_≡_, ap₂, _∙_}
 use mathlib.Core.List.{List}
 use Prim.Native.Nat.{ℕ, _+_, _*_, _/_, _%_, _<_}

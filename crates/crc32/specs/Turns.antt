@@ -1,5 +1,5 @@
 -- Many bits at a time: a turn is linear over exclusive or, so bits may be added to the register all at once, and what the
--- turns make of a register is the sum of what they make of its parts. Assumes nothing.
+-- turns make of a register is the sum of what they make of its parts.
 use mathlib.Core.Path.{_≡_, refl, sym, ap, ap₂, _∙_}
 use mathlib.Core.Bool.{Bool, cond}
 use mathlib.Core.List.{List, [], _∷_}

@@ -1,5 +1,5 @@
 -- CRC-32 of the digits 1 to 9 in ASCII, the check value of the catalogues, and of the empty message, by computing the
--- definition. Assumes nothing.
+-- definition.
 use mathlib.Core.Path.{_≡_, refl}
 use mathlib.Core.List.{[], _∷_}
 use Rattle.crc32.specs.Ieee8023.{crcOf, transmitted, bitsOf, number, complemented, remainder, generator, polynomial, among, lead, scaled, _⊕_}

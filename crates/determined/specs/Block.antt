@@ -1,4 +1,4 @@
--- Crate `block`: each public function's promise determines its outcome. Assumes nothing.
+-- Crate `block`: each public function's promise determines its outcome.
 use Rattle.determined.specs.One.{Determined, one}
 use Rattle.block.proofs as block
 

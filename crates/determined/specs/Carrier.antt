@@ -1,4 +1,4 @@
--- Crate `carrier`: each public function's promise determines its outcome. Assumes nothing.
+-- Crate `carrier`: each public function's promise determines its outcome.
 use Rattle.determined.specs.One.{Determined, one}
 use Rattle.carrier.proofs as carrier
 

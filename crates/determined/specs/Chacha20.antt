@@ -1,4 +1,4 @@
--- Crate `chacha20`: each public function's promise determines its outcome. Assumes nothing.
+-- Crate `chacha20`: each public function's promise determines its outcome.
 use Rattle.determined.specs.One.{Determined, one}
 use Rattle.chacha20.proofs as chacha20
 

@@ -1,4 +1,4 @@
--- Crate `crc32`: each public function's promise determines its outcome. Assumes nothing.
+-- Crate `crc32`: each public function's promise determines its outcome.
 use Rattle.determined.specs.One.{Determined, one}
 use Rattle.crc32.proofs as crc32
 

@@ -1,4 +1,4 @@
--- Crate `dither`: each public function's promise determines its outcome. Assumes nothing.
+-- Crate `dither`: each public function's promise determines its outcome.
 use Rattle.determined.specs.One.{Determined, one}
 use Rattle.dither.proofs as dither
 

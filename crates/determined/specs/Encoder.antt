@@ -1,4 +1,4 @@
--- Crate `encoder`: each public function's promise determines its outcome. Assumes nothing.
+-- Crate `encoder`: each public function's promise determines its outcome.
 use Rattle.determined.specs.One.{Determined, one}
 use Rattle.encoder.proofs as encoder
 

@@ -1,4 +1,4 @@
--- What the statement says, written out by computation for `resilient::write`: its outcome is the answer, the samples and the work area, and its promise an equation for each. Assumes nothing.
+-- What the statement says, written out by computation for `resilient::write`: its outcome is the answer, the samples and the work area, and its promise an equation for each.
 use mathlib.Core.Path.{_≡_, refl}
 use mathlib.Core.List.{List}
 use Prim.Native.Nat.{ℕ}
@@ -9,7 +9,7 @@ use denote.Triple.Entry.{Args}
 use Rattle.determined.specs.One.{Outcome, Allows}
 use Rattle.record.specs.declared.Answer.{Answer}
 use Rattle.record.specs.declared.Lock.{Lock}
-use Rattle.picture.specs.declared.Picture.{Picture}
+use Rattle.admission.specs.declared.Picture.{Picture}
 use Rattle.resilient.specs.Resilient.{Written, writtenOf}
 use Rattle.resilient.proofs.write as write
 

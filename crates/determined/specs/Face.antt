@@ -1,4 +1,4 @@
--- Crate `face`: each public function's promise determines its outcome. Assumes nothing.
+-- Crate `face`: each public function's promise determines its outcome.
 use Rattle.determined.specs.One.{Determined, one}
 use Rattle.face.proofs as face
 

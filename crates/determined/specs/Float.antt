@@ -1,4 +1,4 @@
--- Crate `float`: each public function's promise determines its outcome. Assumes nothing.
+-- Crate `float`: each public function's promise determines its outcome.
 use Rattle.determined.specs.One.{Determined, one}
 use Rattle.float.proofs as float
 

@@ -1,4 +1,4 @@
--- Crate `keystream`: each public function's promise determines its outcome. Assumes nothing.
+-- Crate `keystream`: each public function's promise determines its outcome.
 use Rattle.determined.specs.One.{Determined, one}
 use Rattle.keystream.proofs as keystream
 

@@ -1,4 +1,4 @@
--- Crate `layout`: each public function's promise determines its outcome. Assumes nothing.
+-- Crate `layout`: each public function's promise determines its outcome.
 use Rattle.determined.specs.One.{Determined, one}
 use Rattle.layout.proofs as layout
 

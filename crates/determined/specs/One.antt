@@ -2,7 +2,6 @@
 --   Outcome      the result, and for each parameter what the memory lent by it holds at the return: the unit, unless it is a `&mut`, since nothing else is written
 --   Determined   two outcomes that a promise allows for the same arguments are equal, whether or not the arguments are as the function asks
 --   one          the lemma
--- Assumes nothing.
 use mathlib.Core.Path.{_≡_, sym, _∙_}
 use contract.Lifetimes.{Lfts}
 use denote.Triple.Entry.{Args, Res}

@@ -1,4 +1,4 @@
--- Crate `record`: each public function's promise determines its outcome. Assumes nothing.
+-- Crate `record`: each public function's promise determines its outcome.
 use Rattle.determined.specs.One.{Determined, one}
 use Rattle.record.proofs as rec
 

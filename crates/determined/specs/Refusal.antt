@@ -1,4 +1,4 @@
--- Crate `refusal`: each public function's promise determines its outcome. Assumes nothing.
+-- Crate `refusal`: each public function's promise determines its outcome.
 use Rattle.determined.specs.One.{Determined, one}
 use Rattle.refusal.proofs as refusal
 

@@ -1,4 +1,4 @@
--- Crate `resample`: each public function's promise determines its outcome. Assumes nothing.
+-- Crate `resample`: each public function's promise determines its outcome.
 use Rattle.determined.specs.One.{Determined, one}
 use Rattle.resample.proofs as resample
 

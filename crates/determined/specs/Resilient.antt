@@ -1,4 +1,4 @@
--- Crate `resilient`: each public function's promise determines its outcome. Assumes nothing.
+-- Crate `resilient`: each public function's promise determines its outcome.
 use Rattle.determined.specs.One.{Determined, one}
 use Rattle.resilient.proofs as resilient
 

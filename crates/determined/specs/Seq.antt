@@ -1,12 +1,9 @@
--- Crate `seq`: each public function's promise determines its outcome. Assumes nothing.
+-- Crate `seq`: each public function's promise determines its outcome.
 use Rattle.determined.specs.One.{Determined, one}
 use Rattle.seq.proofs as seq
 
 pub zero-floats-one : Determined seq.zero_floats.ended seq.zero_floats.Reads.Post
 zero-floats-one κs a x y p q i = (tt, (one p q i, tt))
-
-pub zero-bytes-one : Determined seq.zero_bytes.ended seq.zero_bytes.Reads.Post
-zero-bytes-one κs a x y p q i = (tt, (one p q i, tt))
 
 pub copy-bytes-one : Determined seq.copy_bytes.ended seq.copy_bytes.Reads.Post
 copy-bytes-one κs a x y p q i = (tt, (tt, (one p q i, (tt, tt))))

@@ -1,4 +1,4 @@
--- Crate `shuffle`: each public function's promise determines its outcome. Assumes nothing.
+-- Crate `shuffle`: each public function's promise determines its outcome.
 use Rattle.determined.specs.One.{Determined, one}
 use Rattle.shuffle.proofs as shuffle
 

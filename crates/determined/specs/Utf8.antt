@@ -1,4 +1,4 @@
--- Crate `utf8`: each public function's promise determines its outcome. Assumes nothing.
+-- Crate `utf8`: each public function's promise determines its outcome.
 use Rattle.determined.specs.One.{Determined, one}
 use Rattle.utf8.proofs as utf8
 

@@ -1,4 +1,4 @@
--- Crate `vaikelomu`: each public function's promise determines its outcome. Assumes nothing.
+-- Crate `vaikelomu`: each public function's promise determines its outcome.
 use Rattle.determined.specs.One.{Determined, one}
 use Rattle.vaikelomu.proofs as vaikelomu
 

@@ -1,4 +1,4 @@
--- The dither. Document 01: the layout's key, nonce 1 then eleven zeros, 4,096 little-endian words; each is the word shifted right by 8, divided by 2^24. Block b, coefficient k uses number 4 b + k. Assumes nothing.
+-- The dither. Document 01: the layout's key, nonce 1 then eleven zeros, 4,096 little-endian words; each is the word shifted right by 8, divided by 2^24. Block b, coefficient k uses number 4 b + k.
 use mathlib.Core.Path.{_≡_, refl, sym, ap, _∙_, subst}
 use mathlib.Core.Bool.{false}
 use mathlib.Core.List.{List, _∷_}

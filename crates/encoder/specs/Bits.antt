@@ -1,4 +1,4 @@
--- The bits of bytes, most significant first: how many, that each is below 2, and which stands where. Assumes nothing.
+-- The bits of bytes, most significant first: how many, that each is below 2, and which stands where.
 use mathlib.Core.Path.{_≡_, refl, sym, ap, ap₂, _∙_}
 use mathlib.Core.List.{List, [], _∷_}
 use Prim.Native.Nat.{ℕ, zero, suc, _+_, _-_, _*_, _/_, _%_, _^_, _≤_, _<_}

@@ -1,4 +1,4 @@
--- What the encoder's loop keeps: one bit more of a word. Assumes nothing.
+-- What the encoder's loop keeps: one bit more of a word.
 use mathlib.Core.Path.{_≡_, refl, sym, ap, ap₂, _∙_}
 use mathlib.Core.List.{List, [], _∷_, _++_, append-assoc}
 use Prim.Native.Nat.{ℕ, suc, _+_, _*_, _/_, _<_}

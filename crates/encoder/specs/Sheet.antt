@@ -1,4 +1,4 @@
--- The encoder's lines of document 01's sample sheet, computed over the definitions. Assumes nothing.
+-- The encoder's lines of document 01's sample sheet, computed over the definitions.
 use mathlib.Core.Path.{_≡_, refl}
 use mathlib.Core.List.{[], _∷_, _++_}
 use lib.Count.{ones}

@@ -1,4 +1,4 @@
--- A signed result, which the machine hands over by its bits, read back: it is in range, since a cast made it. Assumes nothing.
+-- A signed result, which the machine hands over by its bits, read back: it is in range, since a cast made it.
 use mathlib.Core.Path.{_≡_, sym, _∙_, subst}
 use lib.IntN.{ℤ}
 use lib.Ieee.{Float, toSigned}

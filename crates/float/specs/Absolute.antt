@@ -1,4 +1,4 @@
--- The absolute value by the sign of the operand: itself, its negation, and for a zero or no number the sum with +0. Generic over the format. Assumes nothing.
+-- The absolute value by the sign of the operand: itself, its negation, and for a zero or no number the sum with +0. Generic over the format.
 use mathlib.Core.Path.{_≡_, refl, sym, ap, _∙_, subst}
 use mathlib.Core.Logic.{_⊎_, inl, inr}
 use mathlib.Core.Bool.{Bool, true, false, not}

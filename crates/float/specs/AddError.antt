@@ -1,5 +1,5 @@
 -- The error of an addition, in whole numbers of the format's smallest value: the sum of two values is one rounding of their exact sum, so where that is below 2 ^ j units it is off by at most half of 2 ^ (j - prec).
--- Generic over the format. Assumes nothing.
+-- Generic over the format.
 use mathlib.Core.Path.{_≡_, refl, sym, ap, _∙_, subst}
 use mathlib.Core.Bool.{Bool, true, false, not, _&&_, cond}
 use Prim.Native.Nat.{ℕ, suc, _+_, _-_, _*_, _^_, _≤_, _<_}

@@ -1,4 +1,4 @@
--- Constants by value, and a test that is known, as a fact. Assumes nothing.
+-- Constants by value, and a test that is known, as a fact.
 use mathlib.Core.Path.{_≡_, sym, subst}
 use mathlib.Core.Bool.{Bool, true, false, not}
 use Prim.Native.Nat.{ℕ}

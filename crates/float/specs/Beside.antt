@@ -1,4 +1,4 @@
--- A whole number beside a value: below 2 ^ (prec - 1), adding that power and taking it off again leaves one at most a half away (Step), and one comparison then says which whole number `floor` or `roundAway` asks for. Generic over the format. Assumes nothing.
+-- A whole number beside a value: below 2 ^ (prec - 1), adding that power and taking it off again leaves one at most a half away (Step), and one comparison then says which whole number `floor` or `roundAway` asks for. Generic over the format.
 use mathlib.Core.Path.{_≡_, refl, sym, ap, _∙_, subst}
 use mathlib.Core.Bool.{Bool, true, false, not, true≢false}
 use Prim.Native.Nat.{ℕ, zero, suc, _+_, _-_, _*_, _/_, _^_, _≤_, _<_}

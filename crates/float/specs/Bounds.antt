@@ -1,5 +1,5 @@
 -- Bounds on sizes. `Within x a c`: x is finite and at most a / c in size. `Holds f a c`: the format f holds the fraction a / c. An operation whose exact result is at most a / c in size gives
--- a value that is, where the format holds a / c, since rounding keeps the order. Generic over the format. Assumes nothing.
+-- a value that is, where the format holds a / c, since rounding keeps the order. Generic over the format.
 use mathlib.Core.Path.{_≡_, refl, sym, ap, _∙_, subst}
 use mathlib.Core.Logic.{_⊎_, inl, inr}
 use mathlib.Core.Bool.{Bool, true, false, _&&_, Bool·beq, cond}

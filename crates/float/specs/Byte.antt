@@ -1,4 +1,4 @@
--- A value rounded to 0..255: brought into that range first, it is rounded to the same byte. Assumes nothing.
+-- A value rounded to 0..255: brought into that range first, it is rounded to the same byte.
 use mathlib.Core.Path.{_≡_, refl, sym, ap, _∙_, subst}
 use mathlib.Core.Bool.{Bool, true, false, not, cond}
 use Prim.Native.Nat.{ℕ, _*_, _≤_, _<_}

@@ -1,4 +1,4 @@
--- The smaller and the larger of two, by the tests that choose: a number equals itself and a NaN doesn't. Assumes nothing.
+-- The smaller and the larger of two, by the tests that choose: a number equals itself and a NaN doesn't.
 use mathlib.Core.Path.{_≡_, refl, ap, _∙_, subst}
 use mathlib.Core.Bool.{Bool, true, false, not, cond}
 use lib.Dec.{T}

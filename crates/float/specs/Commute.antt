@@ -1,4 +1,4 @@
--- Multiplication commutes, at every value. Generic over the format. Assumes nothing.
+-- Multiplication commutes, at every value. Generic over the format.
 use mathlib.Core.Path.{_≡_, refl, ap}
 use mathlib.Core.Bool.{Bool, true, false}
 use Prim.Native.Nat.{_*_}

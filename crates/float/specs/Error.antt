@@ -1,4 +1,4 @@
--- The error of rounding, in whole numbers: in units of the format's smallest value, `round` moves a fraction n / den by at most half of the 2 ^ drop units that it rounds to. Generic over the format. Assumes nothing.
+-- The error of rounding, in whole numbers: in units of the format's smallest value, `round` moves a fraction n / den by at most half of the 2 ^ drop units that it rounds to. Generic over the format.
 use mathlib.Core.Path.{_≡_, sym, ap, _∙_, subst}
 use mathlib.Core.Bool.{Bool, true, false, not}
 use Prim.Native.Nat.{ℕ, suc, _+_, _-_, _*_, _/_, _%_, _^_, _≤_, _<_, compare, Ordering, Ordering·lt, Ordering·eq, Ordering·gt}

@@ -1,5 +1,5 @@
 -- `Is c x z`: the float x is finite and denotes z / c, either zero standing for 0. Where every value is a multiple of 1 / 2 ^ l and none exceeds 2 ^ prec of them,
--- a float addition, negation and comparison are those of whole numbers. Generic over the format. Assumes nothing.
+-- a float addition, negation and comparison are those of whole numbers. Generic over the format.
 use mathlib.Core.Path.{_≡_, refl, sym, ap, _∙_, subst}
 use mathlib.Core.Logic.{inl, inr}
 use mathlib.Core.Bool.{Bool, true, false, not, _&&_, cond}

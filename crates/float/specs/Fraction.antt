@@ -1,5 +1,5 @@
 -- Values of floats as signed fractions (`HasValue`): a value of a format is written in one way, and each operation and comparison sees only the fractions.
--- Generic over the format. Assumes nothing.
+-- Generic over the format.
 use mathlib.Core.Path.{_≡_, refl, sym, ap, _∙_, subst}
 use mathlib.Core.Logic.{_⊎_, inl, inr}
 use mathlib.Core.Bool.{Bool, true, false, not, _&&_, _||_, Bool·beq, cond}

@@ -1,4 +1,4 @@
--- A float as an integer, by Rust's saturating `as`: in range, at and beyond the ends, and no number. Generic over the integer's width and the float's format. Assumes nothing.
+-- A float as an integer, by Rust's saturating `as`: in range, at and beyond the ends, and no number. Generic over the integer's width and the float's format.
 use mathlib.Core.Path.{_≡_, refl, sym, ap, _∙_, subst}
 use mathlib.Core.Bool.{Bool, true, false, not, _&&_, _||_, cond, true≢false}
 use Prim.Native.Nat.{ℕ, zero, suc, _+_, _-_, _*_, _/_, _%_, _^_, _≤_, _<_, min}

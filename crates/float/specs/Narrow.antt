@@ -1,5 +1,5 @@
 -- An f64 `as` an f32. In units of binary64's smallest value, 2 ^ -1074, an f32 of x's size is a multiple of 2 ^ k of them for some k, and `narrow` rounds x to the nearest such multiple, as adding 2 ^ (52 + k) units and taking them off does (Step).
--- The exponent's field of x's bit pattern gives k, or 897 the least k, that of the subnormals. Assumes nothing.
+-- The exponent's field of x's bit pattern gives k, or 897 the least k, that of the subnormals.
 use mathlib.Core.Path.{_≡_, refl, sym, ap, _∙_, subst}
 use mathlib.Core.Logic.{inl, inr}
 use mathlib.Core.Bool.{Bool, true, false, not, _&&_}

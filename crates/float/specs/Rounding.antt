@@ -1,4 +1,4 @@
--- `round` at a value of the format gives that value, and `round` and `neg` commute. Generic over the format. Assumes nothing.
+-- `round` at a value of the format gives that value, and `round` and `neg` commute. Generic over the format.
 use mathlib.Core.Path.{_≡_, refl, sym, ap, _∙_, subst}
 use mathlib.Core.Bool.{Bool, true, false, not, _&&_, cond}
 use Prim.Native.Nat.{ℕ, zero, suc, _+_, _-_, _*_, _%_, _^_, _≤_, _<_}

@@ -1,4 +1,4 @@
--- A path's metric: minus infinity, or a multiple of 1 / 2 ^ l. Adding a vote and comparing two metrics are exact. Generic over the format. Assumes nothing.
+-- A path's metric: minus infinity, or a multiple of 1 / 2 ^ l. Adding a vote and comparing two metrics are exact. Generic over the format.
 use mathlib.Core.Path.{_≡_, refl, ap, _∙_}
 use mathlib.Core.Bool.{Bool, true, false}
 use Prim.Native.Nat.{ℕ, _^_, _≤_, _<_}

@@ -1,4 +1,4 @@
--- Worked values of the definitions, computed: edges that a wrong reading would miss. Assumes nothing.
+-- Worked values of the definitions, computed: edges that a wrong reading would miss.
 use mathlib.Core.Path.{_≡_, refl}
 use lib.Ieee.{binary32, binary64, ofBits}
 use Rattle.float.specs.Calls.{floor, roundAway, ceil, narrow}

@@ -1,4 +1,4 @@
--- A format holds n * 2 ^ k / 2 ^ l for n up to 2 ^ prec, where the result stays below the overflow: a bound beyond the format's whole numbers is a small one times a power of two. `Room f n a c`: it holds the first n multiples of a / c, as a sum of n terms needs. Generic over the format. Assumes nothing.
+-- A format holds n * 2 ^ k / 2 ^ l for n up to 2 ^ prec, where the result stays below the overflow: a bound beyond the format's whole numbers is a small one times a power of two. `Room f n a c`: it holds the first n multiples of a / c, as a sum of n terms needs. Generic over the format.
 use mathlib.Core.Path.{_≡_, sym, ap, _∙_, subst}
 use mathlib.Core.Logic.{inl, inr}
 use mathlib.Core.Bool.{false}

@@ -1,5 +1,5 @@
 -- Rounding to a multiple of 2 ^ k units by an addition: with M = 2 ^ (prec - 1 + k) units, and 0 <= x < M, the sum x + M has no digit below 2 ^ k units, so it is x rounded to such a multiple, and taking M off again is exact.
--- A unit is the format's smallest value. Generic over the format. Assumes nothing.
+-- A unit is the format's smallest value. Generic over the format.
 use mathlib.Core.Path.{_≡_, refl, sym, ap, _∙_, subst}
 use mathlib.Core.Bool.{Bool, true, false, cond}
 use Prim.Native.Nat.{ℕ, suc, _+_, _-_, _*_, _/_, _%_, _^_, _≤_, _<_, compare, Ordering, Ordering·lt, Ordering·eq, Ordering·gt}

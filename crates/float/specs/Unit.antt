@@ -1,4 +1,4 @@
--- The test for a number from -1 to 1 says that the value is within 1. Assumes nothing.
+-- The test for a number from -1 to 1 says that the value is within 1.
 use mathlib.Core.Path.{_≡_, refl, sym}
 use mathlib.Core.Logic.{inl, inr}
 use mathlib.Core.Bool.{Bool, true, false, _&&_, _||_, cond}

@@ -1,4 +1,4 @@
--- A value in units of its format's smallest one, 2 ^ -low: every finite value of the format is a whole number of them. Generic over the format. Assumes nothing.
+-- A value in units of its format's smallest one, 2 ^ -low: every finite value of the format is a whole number of them. Generic over the format.
 use mathlib.Core.Path.{_≡_, refl, sym, ap, _∙_, subst}
 use mathlib.Core.Bool.{Bool}
 use Prim.Native.Nat.{ℕ, _-_, _*_, _/_, _^_, _≤_}

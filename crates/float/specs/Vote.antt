@@ -1,4 +1,4 @@
--- A block's vote is the mean of four terms 1 - 4 min(r, 1 - r), with r = x - floor x. Each term lies from -1 to 1 at every finite x, and so does the mean. Generic over the format. Assumes nothing.
+-- A block's vote is the mean of four terms 1 - 4 min(r, 1 - r), with r = x - floor x. Each term lies from -1 to 1 at every finite x, and so does the mean. Generic over the format.
 use mathlib.Core.Path.{_≡_, refl, sym, ap, _∙_, subst}
 use mathlib.Core.Logic.{_⊎_, inl, inr}
 use mathlib.Core.Bool.{Bool, true, false, not, _&&_, cond, true≢false}

@@ -1,4 +1,4 @@
--- `floor` and `roundAway` by the size of the operand: a value that is large, zero or no number stays, and the result is always that whole number exactly, since a format holds every whole number that it can round to. Generic over the format. Assumes nothing.
+-- `floor` and `roundAway` by the size of the operand: a value that is large, zero or no number stays, and the result is always that whole number exactly, since a format holds every whole number that it can round to. Generic over the format.
 use mathlib.Core.Path.{_≡_, refl, sym, ap, _∙_, subst}
 use mathlib.Core.Bool.{Bool, true, false, not}
 use Prim.Native.Nat.{ℕ, suc, _+_, _-_, _*_, _/_, _^_, _≤_, _<_}

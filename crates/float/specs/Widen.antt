@@ -1,4 +1,4 @@
--- The floor of an f32 is the same in both formats, so one proof serves both. Assumes nothing.
+-- The floor of an f32 is the same in both formats, so one proof serves both.
 use mathlib.Core.Path.{_≡_, refl, sym, _∙_, subst}
 use mathlib.Core.Bool.{Bool, not}
 use Prim.Native.Nat.{ℕ, _*_}

@@ -1,4 +1,4 @@
--- Lists that a loop fills from the front. Assumes nothing.
+-- Lists that a loop fills from the front.
 use mathlib.Core.Path.{_≡_, sym}
 use mathlib.Core.List.{List, _++_, append-assoc}
 use Prim.Native.Nat.{ℕ, suc, _+_, _<_}

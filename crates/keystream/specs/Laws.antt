@@ -1,5 +1,5 @@
 -- What callers use of `apply`: when it is granted, that twice is never, that parts make the whole, that lengths are kept,
--- and that zeros become the keystream. Assumes nothing.
+-- and that zeros become the keystream.
 use mathlib.Core.Path.{_≡_, refl, _∙_, ap, ap₂}
 use mathlib.Core.List.{List, _++_}
 use Prim.Native.Nat.{ℕ, zero, suc, _+_, _*_, _/_, _%_, _≤_, _<_}

@@ -1,4 +1,4 @@
--- The layout begins as the shuffle of 1,024 with its key does; that it is that shuffle to its end is run. Assumes nothing.
+-- The layout begins as the shuffle of 1,024 with its key does; that it is that shuffle to its end is run.
 use mathlib.Core.Path.{_≡_, refl}
 use lib.ListN.{take}
 use Rattle.seq.specs.Tab.{tab}

@@ -1,4 +1,4 @@
--- What the two loops over the places keep: the blocks passed have their bits, and the places passed are in the sums. Assumes nothing.
+-- What the two loops over the places keep: the blocks passed have their bits, and the places passed are in the sums.
 use mathlib.Core.Path.{_≡_, refl, sym, ap, _∙_}
 use mathlib.Core.Bool.{Bool, true, false, cond}
 use mathlib.Core.Logic.{inl, inr}

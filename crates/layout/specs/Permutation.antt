@@ -1,4 +1,4 @@
--- Every number below 1,024 stands in the layout exactly once: the list `places` undoes it both ways, by one test over each table. Assumes nothing.
+-- Every number below 1,024 stands in the layout exactly once: the list `places` undoes it both ways, by one test over each table.
 use mathlib.Core.Path.{_≡_, refl}
 use mathlib.Core.Bool.{Bool, _&&_}
 use Prim.Native.Nat.{ℕ, _<_}

@@ -1,4 +1,4 @@
--- Places and coded bits: place j, which stands in block `blockOf j`, carries coded bit j mod p. Definitions for any number p of coded bits over the 1,024 places, and the first edition's 748. Assumes nothing.
+-- Places and coded bits: place j, which stands in block `blockOf j`, carries coded bit j mod p. Definitions for any number p of coded bits over the 1,024 places, and the first edition's 748.
 use mathlib.Core.Path.{_≡_, refl, sym, ap, ap₂, _∙_}
 use mathlib.Core.Bool.{Bool, true, false, cond}
 use mathlib.Core.List.{List}

@@ -1,5 +1,5 @@
 -- Laws on the record's definitions: lengths, what stands at which place, a CRC that was put there, and that the cipher twice
--- is never. Assumes nothing.
+-- is never.
 use mathlib.Core.Path.{_≡_, refl, _∙_}
 use mathlib.Core.Bool.{Bool, true, false, cond, _&&_}
 use mathlib.Core.List.{List, _∷_, _++_, append-assoc}

@@ -1,5 +1,5 @@
 -- A record taken apart: put through the cipher again it is what was laid, with its CRC-32 behind it, so that each part can be
--- read off it. Assumes nothing.
+-- read off it.
 use mathlib.Core.Path.{_≡_, refl, sym, _∙_, ap}
 use mathlib.Core.Bool.{true, false}
 use mathlib.Core.List.{List, [], _∷_, _++_, append-assoc, append-nil}

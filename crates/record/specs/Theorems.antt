@@ -1,4 +1,4 @@
--- What building and reading are to each other, by what Opened.antt reads off a record. Assumes nothing.
+-- What building and reading are to each other, by what Opened.antt reads off a record.
 use mathlib.Core.Path.{_≡_, refl, sym, _∙_, ap}
 use mathlib.Core.Bool.{Bool, true, false, false≢true, not, cond}
 use mathlib.Core.List.{List, _∷_}

@@ -1,16 +1,16 @@
 // Replays the Rust's stored answers for crates `transform` and `block`: blocks of 64 floats by their bits, four bytes each, the high
 // one first, and what the Rust makes of them. Every NaN is written as one pattern. Prints for each list how many
 // were compared and how many differ.
-use lists::Field;
-use lists::stored::f32_of;
-use lists::stored::same;
-use lists::stored::word;
+use replay_lists::Field;
+use replay_lists::stored::f32_of;
+use replay_lists::stored::same;
+use replay_lists::stored::word;
 ghost use Prim.Native.Nat.{_≤_};
 ghost use mathlib.Core.Path.{_≡_};
 ghost use lib.ListN.{length};
-ghost use Rattle.lists.specs.Fields.{Within};
-ghost use Rattle.transform.specs.Grid.{grid};
-ghost use Rattle.transform.specs.Matrix.{entry, turnedEntry};
+ghost use Rattle.replay_lists.specs.Fields.{Within};
+ghost use Rattle.dct.specs.Grid.{grid};
+ghost use Rattle.dct.specs.Matrix.{entry, turnedEntry};
 
 enum Stage {
     Forward,
@@ -47,14 +47,14 @@ fn answer(stage: Stage, raw: &[u8], matrix: &[f32; 64], turned: &[f32; 64]) -> [
 {
     let mut values = block_of(raw);
     if let Stage::Inverse = stage {
-        transform::inverse(&mut values, matrix, turned);
+        dct::inverse(&mut values, matrix, turned);
         return values;
     }
-    transform::forward(&mut values, matrix, turned);
+    dct::forward(&mut values, matrix, turned);
     match stage {
         Stage::Mark => {
             block::mark_block(&mut values, dither_of(raw), raw[272]);
-            transform::inverse(&mut values, matrix, turned);
+            dct::inverse(&mut values, matrix, turned);
             values
         }
         Stage::Vote => {
@@ -85,12 +85,12 @@ fn result_size(stage: Stage) -> usize {
 fn agrees(text: &[u8], stage: Stage, operand: Field, result: Field) -> bool
     requires { ⌜ Within (now text) operand × Within (now text) result ⌝ }
 {
-    let matrix = transform::dct_matrix();
-    let turned = transform::dct_turned();
+    let matrix = dct::dct_matrix();
+    let turned = dct::dct_turned();
     let mut raw = [0u8; 273];
     let mut expected = [0u8; 256];
-    let one = lists::hex_bytes(text, operand, &mut raw);
-    let other = lists::hex_bytes(text, result, &mut expected);
+    let one = replay_lists::hex_bytes(text, operand, &mut raw);
+    let other = replay_lists::hex_bytes(text, result, &mut expected);
     one.good
         && one.count == operand_size(stage)
         && other.good
@@ -103,8 +103,8 @@ fn replay(text: &[u8], name: &[u8], stage: Stage) {
     let mut different: u64 = 0;
     let mut at = 0;
     while at < text.len() {
-        let operand = lists::next(text, at);
-        let result = lists::next(text, operand.end);
+        let operand = replay_lists::next(text, at);
+        let result = replay_lists::next(text, operand.end);
         at = result.end;
         if operand.start < operand.end {
             compared += 1;
@@ -113,13 +113,13 @@ fn replay(text: &[u8], name: &[u8], stage: Stage) {
             }
         }
     }
-    lists::report(name, compared, different);
+    replay_lists::report(name, compared, different);
 }
 
 // The list in the file `name`.
 fn list(name: &[u8], stage: Stage) {
-    let mut text = lists::room();
-    let count = lists::load(name, &mut text);
+    let mut text = replay_lists::room();
+    let count = replay_lists::load(name, &mut text);
     replay(&text[..count], name, stage);
 }
 

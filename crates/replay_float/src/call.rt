@@ -1,8 +1,8 @@
 // The calls of crate `float`, over the bits of their operands and their result.
-use lists::stored::bits_of_f32;
-use lists::stored::bits_of_f64;
-use lists::stored::f32_of;
-use lists::stored::f64_of;
+use replay_lists::stored::bits_of_f32;
+use replay_lists::stored::bits_of_f64;
+use replay_lists::stored::f32_of;
+use replay_lists::stored::f64_of;
 
 pub enum Call {
     RoundF32,

@@ -3,16 +3,16 @@
 mod call;
 
 use call::Call;
-use lists::Field;
+use replay_lists::Field;
 ghost use Prim.Native.Nat.{_≤_};
-ghost use Rattle.lists.specs.Fields.{Within};
+ghost use Rattle.replay_lists.specs.Fields.{Within};
 
 fn agrees(text: &[u8], which: Call, one: Field, other: Field, result: Field) -> bool
     requires { ⌜ Within (now text) one × Within (now text) other × Within (now text) result ⌝ }
 {
-    let x = lists::hex_number(text, one);
-    let y = lists::hex_number(text, other);
-    let z = lists::hex_number(text, result);
+    let x = replay_lists::hex_number(text, one);
+    let y = replay_lists::hex_number(text, other);
+    let z = replay_lists::hex_number(text, result);
     x.good && y.good && z.good && which.agrees(x.value, y.value, z.value)
 }
 
@@ -22,7 +22,7 @@ fn other_operand(text: &[u8], which: Call, one: Field) -> Field
     ensures { λ r. ⌜ Within (now (text .entry)) r × (one .end ≤ r .end) ⌝ }
 {
     if which.takes_two() {
-        lists::next(text, one.end)
+        replay_lists::next(text, one.end)
     } else {
         one
     }
@@ -33,9 +33,9 @@ fn replay(text: &[u8], name: &[u8], which: Call) {
     let mut different: u64 = 0;
     let mut at = 0;
     while at < text.len() {
-        let one = lists::next(text, at);
+        let one = replay_lists::next(text, at);
         let other = other_operand(text, which, one);
-        let result = lists::next(text, other.end);
+        let result = replay_lists::next(text, other.end);
         at = result.end;
         if one.start < one.end {
             compared += 1;
@@ -44,13 +44,13 @@ fn replay(text: &[u8], name: &[u8], which: Call) {
             }
         }
     }
-    lists::report(name, compared, different);
+    replay_lists::report(name, compared, different);
 }
 
 // The list in the file `name`.
 fn list(name: &[u8], which: Call) {
-    let mut text = lists::room();
-    let count = lists::load(name, &mut text);
+    let mut text = replay_lists::room();
+    let count = replay_lists::load(name, &mut text);
     replay(&text[..count], name, which);
 }
 

@@ -3,15 +3,15 @@
 // Rust has no function for a single draw, so the answers for the draw on chosen values (accepted.txt) are the
 // oracle's: it computes them in oracle/judge/src/shuffles.rs by the formula that stands within the Rust's shuffle.
 // A case is two strings of bytes, the operand and the result, in which a number has its high byte first.
-use lists::Field;
-use lists::stored::f32_of;
-use lists::stored::number;
-use lists::stored::pair;
-use lists::stored::word;
+use replay_lists::Field;
+use replay_lists::stored::f32_of;
+use replay_lists::stored::number;
+use replay_lists::stored::pair;
+use replay_lists::stored::word;
 ghost use Prim.Native.Nat.{_+_, _*_, _≤_};
 ghost use mathlib.Core.Path.{_≡_};
 ghost use lib.ListN.{length};
-ghost use Rattle.lists.specs.Fields.{Within};
+ghost use Rattle.replay_lists.specs.Fields.{Within};
 
 enum Stage {
     Layout,
@@ -101,8 +101,8 @@ fn agrees(text: &[u8], stage: Stage, operand: Field, result: Field) -> bool
 {
     let mut raw = [0u8; 50];
     let mut expected = [0u8; 8202];
-    let one = lists::hex_bytes(text, operand, &mut raw);
-    let other = lists::hex_bytes(text, result, &mut expected);
+    let one = replay_lists::hex_bytes(text, operand, &mut raw);
+    let other = replay_lists::hex_bytes(text, result, &mut expected);
     if !(one.good && other.good) {
         return false;
     }
@@ -121,8 +121,8 @@ fn replay(text: &[u8], name: &[u8], stage: Stage) {
     let mut different: u64 = 0;
     let mut at = 0;
     while at < text.len() {
-        let operand = lists::next(text, at);
-        let result = lists::next(text, operand.end);
+        let operand = replay_lists::next(text, at);
+        let result = replay_lists::next(text, operand.end);
         at = result.end;
         if operand.start < operand.end {
             compared += 1;
@@ -131,13 +131,13 @@ fn replay(text: &[u8], name: &[u8], stage: Stage) {
             }
         }
     }
-    lists::report(name, compared, different);
+    replay_lists::report(name, compared, different);
 }
 
 // The list in the file `name`.
 fn list(name: &[u8], stage: Stage) {
-    let mut text = lists::room();
-    let count = lists::load(name, &mut text);
+    let mut text = replay_lists::room();
+    let count = replay_lists::load(name, &mut text);
     replay(&text[..count], name, stage);
 }
 

@@ -1,12 +1,12 @@
 // Replays the Rust's stored answers for the crates `build` and `parse`: data/build.txt has records built and texts refused, data/parse.txt
 // records read, damaged and refused. A case is six fields in both. Then texts too long for a list are built.
-use lists::Field;
 use record::Answer;
 use record::Key;
 use record::Lock;
+use replay_lists::Field;
 ghost use Prim.Native.Nat.{_+_, _≤_, min};
 ghost use lib.ListN.{length};
-ghost use Rattle.lists.specs.Fields.{Within};
+ghost use Rattle.replay_lists.specs.Fields.{Within};
 ghost use Rattle.replay_record.specs.Cases.{Whole};
 
 // The fields of a case, in their order.
@@ -24,12 +24,12 @@ fn case_at(text: &[u8], at: usize) -> Case
     requires { ⌜ at ≤ length (now text) ⌝ }
     ensures { λ r. ⌜ Whole (now (text .entry)) r × (min (at + 1) (length (now (text .entry))) ≤ r .f .end) ⌝ }
 {
-    let a = lists::next(text, at);
-    let b = lists::next(text, a.end);
-    let c = lists::next(text, b.end);
-    let d = lists::next(text, c.end);
-    let e = lists::next(text, d.end);
-    let f = lists::next(text, e.end);
+    let a = replay_lists::next(text, at);
+    let b = replay_lists::next(text, a.end);
+    let c = replay_lists::next(text, b.end);
+    let d = replay_lists::next(text, c.end);
+    let e = replay_lists::next(text, d.end);
+    let f = replay_lists::next(text, e.end);
     Case { a, b, c, d, e, f }
 }
 
@@ -37,8 +37,8 @@ fn case_at(text: &[u8], at: usize) -> Case
 fn told(text: &[u8], answer: Answer, number: Field, given: Field) -> bool
     requires { ⌜ Within (now text) number × Within (now text) given ⌝ }
 {
-    let n = lists::hex_number(text, number);
-    let g = lists::hex_number(text, given);
+    let n = replay_lists::hex_number(text, number);
+    let g = replay_lists::hex_number(text, given);
     if !(n.good && g.good) {
         return false;
     }
@@ -59,7 +59,7 @@ fn key_of(text: &[u8], key: Field) -> Stored
     requires { ⌜ Within (now text) key ⌝ }
 {
     let mut bytes = [0u8; 32];
-    let decoded = lists::hex_bytes(text, key, &mut bytes);
+    let decoded = replay_lists::hex_bytes(text, key, &mut bytes);
     Stored {
         good: decoded.good & ((decoded.count == 0) | (decoded.count == 32)),
         given: 0 < decoded.count,
@@ -73,19 +73,19 @@ fn built(text: &[u8], case: Case) -> bool
 {
     let Case { a, b, c, d, e, f } = case;
     let mut bytes = [0u8; 512];
-    let said = lists::hex_bytes(text, a, &mut bytes);
+    let said = replay_lists::hex_bytes(text, a, &mut bytes);
     let count = said.count;
     let stored = key_of(text, b);
     let key = stored.bytes;
     let given = stored.given;
     let mut salt = [0u8; 4];
-    let salted = lists::hex_bytes(text, c, &mut salt);
-    let ours = build::build_record(&bytes[..count], Lock { given, key, salt });
+    let salted = replay_lists::hex_bytes(text, c, &mut salt);
+    let ours = record_build::build_record(&bytes[..count], Lock { given, key, salt });
     let answer = ours.answer;
     let made = ours.bytes;
     let right = told(text, answer, d, e);
     let mut wanted = [0u8; 46];
-    let decoded = lists::hex_bytes(text, f, &mut wanted);
+    let decoded = replay_lists::hex_bytes(text, f, &mut wanted);
     right
         && said.good
         && stored.good
@@ -102,17 +102,17 @@ fn parsed(text: &[u8], case: Case) -> bool
 {
     let Case { a, b, c, d, e, f } = case;
     let mut bytes = [0u8; 46];
-    let decoded = lists::hex_bytes(text, a, &mut bytes);
+    let decoded = replay_lists::hex_bytes(text, a, &mut bytes);
     let stored = key_of(text, b);
     let key = stored.bytes;
     let given = stored.given;
-    let ours = parse::parse_record(&bytes, Key { given, bytes: key });
+    let ours = record_parse::parse_record(&bytes, Key { given, bytes: key });
     let answer = ours.answer;
     let read = ours.text;
     let right = told(text, answer, c, d);
-    let length = lists::hex_number(text, e);
+    let length = replay_lists::hex_number(text, e);
     let mut wanted = [0u8; 32];
-    let said = lists::hex_bytes(text, f, &mut wanted);
+    let said = replay_lists::hex_bytes(text, f, &mut wanted);
     right
         && decoded.good
         && decoded.count == 46
@@ -149,12 +149,12 @@ fn replay(text: &[u8], name: &[u8], reading: bool) {
             }
         }
     }
-    lists::report(name, compared, different);
+    replay_lists::report(name, compared, different);
 }
 
 fn list(path: &[u8], name: &[u8], reading: bool) {
-    let mut text = lists::room();
-    let count = lists::load(path, &mut text);
+    let mut text = replay_lists::room();
+    let count = replay_lists::load(path, &mut text);
     replay(&text[..count], name, reading);
 }
 
@@ -167,7 +167,7 @@ fn taken(text: &[u8]) -> u64
         key: [0; 32],
         salt: [0; 4],
     };
-    let ours = build::build_record(text, lock);
+    let ours = record_build::build_record(text, lock);
     let made = ours.bytes;
     let answer = ours.answer;
     let Answer::Refused(r) = answer else {
@@ -185,7 +185,7 @@ fn taken(text: &[u8]) -> u64
 fn long_texts() {
     let text = [b'a'; 65536];
     let short = taken(&text[..255]) + taken(&text[..256]) + taken(&text[..288]);
-    lists::report(b"long", 4, short + taken(&text));
+    replay_lists::report(b"long", 4, short + taken(&text));
 }
 
 fn main() {

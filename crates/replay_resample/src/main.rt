@@ -3,23 +3,23 @@
 // A case is two strings of bytes, the operand and the result, in which a number has its high byte first; floats
 // stand by their bits, and whole numbers that have a sign as f64. Of a picture's samples a pattern is stored,
 // which is repeated as often as needed.
-use lists::Field;
-use lists::stored::bits_of_f32;
-use lists::stored::bits_of_f64;
-use lists::stored::f32_of;
-use lists::stored::f64_of;
-use lists::stored::number;
-use lists::stored::pair;
-use lists::stored::same;
-use lists::stored::wide;
-use lists::stored::word;
+use replay_lists::Field;
+use replay_lists::stored::bits_of_f32;
+use replay_lists::stored::bits_of_f64;
+use replay_lists::stored::f32_of;
+use replay_lists::stored::f64_of;
+use replay_lists::stored::number;
+use replay_lists::stored::pair;
+use replay_lists::stored::same;
+use replay_lists::stored::wide;
+use replay_lists::stored::word;
+use resample_window::Weight;
+use resample_window::Window;
 use std::num::nearest_i64_to_f64;
-use window::Weight;
-use window::Window;
 ghost use Prim.Native.Nat.{_+_, _*_, _^_, _≤_, _<_};
 ghost use mathlib.Core.Path.{_≡_};
 ghost use lib.ListN.{length};
-ghost use Rattle.lists.specs.Fields.{Within};
+ghost use Rattle.replay_lists.specs.Fields.{Within};
 
 enum Stage {
     Window,
@@ -85,7 +85,7 @@ fn luma_room() -> [f32; 64]
 fn made_luma(row: &[u8], channels: usize, out: &mut [f32], expected: &[u8]) -> bool
     requires { ⌜ (3 ≤ channels) × (channels ≤ 4) × (length (now row) ≡ length (now out) * channels) × (length (now out) ≤ 64) × (length (now expected) ≡ 256) ⌝ }
 {
-    lanes::luma(row, channels, out);
+    resample_four::luma(row, channels, out);
     same(out, expected)
 }
 
@@ -144,7 +144,7 @@ fn full_plane(
     requires { ⌜ (0 < width) × (width ≤ 8192) × (0 < height) × (height ≤ 8192) × (3 ≤ channels) × (channels ≤ 4) × (length (now samples) ≡ width * channels * height) × (length (now plane) ≡ 65536) × (0 < length (now pattern)) ⌝ }
 {
     fill_samples(pattern, samples);
-    downsample::plane(samples, width, height, channels, plane);
+    resample_down::plane(samples, width, height, channels, plane);
 }
 
 fn sized_plane(
@@ -243,7 +243,7 @@ fn full_change(
     requires { ⌜ (256 ≤ width) × (width ≤ 512) × (256 ≤ height) × (height ≤ 512) × (3 ≤ channels) × (channels ≤ 4) × (length (now samples) ≡ width * channels * height) × (length (now change) ≡ 65536) × (0 < length (now pattern)) × (place + 64 ≡ end) × (64 ≤ length (now expected)) ⌝ }
 {
     fill_samples(pattern, samples);
-    upsample::change_samples(change, width, height, channels, samples);
+    resample_up::change_samples(change, width, height, channels, samples);
     if samples.len() < end {
         return false;
     }
@@ -341,8 +341,8 @@ fn agrees(text: &[u8], stage: Stage, operand: Field, result: Field) -> bool
 {
     let mut raw = [0u8; 4096];
     let mut expected = [0u8; 256];
-    let one = lists::hex_bytes(text, operand, &mut raw);
-    let other = lists::hex_bytes(text, result, &mut expected);
+    let one = replay_lists::hex_bytes(text, operand, &mut raw);
+    let other = replay_lists::hex_bytes(text, result, &mut expected);
     if !(one.good && other.good) {
         return false;
     }
@@ -362,8 +362,8 @@ fn replay(text: &[u8], name: &[u8], stage: Stage) {
     let mut different: u64 = 0;
     let mut at = 0;
     while at < text.len() {
-        let operand = lists::next(text, at);
-        let result = lists::next(text, operand.end);
+        let operand = replay_lists::next(text, at);
+        let result = replay_lists::next(text, operand.end);
         at = result.end;
         if operand.start < operand.end {
             compared += 1;
@@ -372,13 +372,13 @@ fn replay(text: &[u8], name: &[u8], stage: Stage) {
             }
         }
     }
-    lists::report(name, compared, different);
+    replay_lists::report(name, compared, different);
 }
 
 // The list in the file `name`.
 fn list(name: &[u8], stage: Stage) {
-    let mut text = lists::room();
-    let count = lists::load(name, &mut text);
+    let mut text = replay_lists::room();
+    let count = replay_lists::load(name, &mut text);
     replay(&text[..count], name, stage);
 }
 

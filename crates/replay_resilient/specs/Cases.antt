@@ -1,7 +1,7 @@
 -- A case whose ten fields are parts of the text. Definitions only.
 use mathlib.Core.List.{List}
 use Prim.Native.Nat.{ℕ}
-use Rattle.lists.specs.Fields.{Within}
+use Rattle.replay_lists.specs.Fields.{Within}
 use Rattle.replay_resilient.specs.declared.Case.{Case}
 
 abbrev pub Whole : List ℕ → Case → Type 0

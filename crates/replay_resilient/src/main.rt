@@ -3,17 +3,17 @@
 // which refusal is given where two apply; pictures of a few pixels and damaged ones, and votes under a key. All memory is
 // lent with something in it and looked at after each call: the samples by their CRC-32, the work area, which has room to
 // spare, place by place.
-use lists::Field;
-use picture::Picture;
+use admission::Picture;
 use record::Answer;
 use record::Key;
 use record::Lock;
 use record::Reading;
+use replay_lists::Field;
 use std::num::wrapping_add_u64;
 ghost use Prim.Native.Nat.{_+_, _≤_, _<_, min};
 ghost use mathlib.Core.Path.{_≡_};
 ghost use lib.ListN.{length};
-ghost use Rattle.lists.specs.Fields.{Within};
+ghost use Rattle.replay_lists.specs.Fields.{Within};
 ghost use Rattle.replay_resilient.specs.Cases.{Whole};
 
 // Samples of four channels, and of three.
@@ -131,8 +131,8 @@ fn told_at(text: &[u8], at: usize) -> Told
     requires { ⌜ at ≤ length (now text) ⌝ }
     ensures { λ r. ⌜ Within (now (text .entry)) (r .number) × Within (now (text .entry)) (r .given) × (min (at + 1) (length (now (text .entry))) ≤ r .given .end) ⌝ }
 {
-    let number = lists::next(text, at);
-    let given = lists::next(text, number.end);
+    let number = replay_lists::next(text, at);
+    let given = replay_lists::next(text, number.end);
     Told { number, given }
 }
 
@@ -141,13 +141,13 @@ fn case_at(text: &[u8], at: usize) -> Case
     requires { ⌜ at ≤ length (now text) ⌝ }
     ensures { λ r. ⌜ Whole (now (text .entry)) r × (min (at + 1) (length (now (text .entry))) ≤ r .read .given .end) ⌝ }
 {
-    let channels = lists::next(text, at);
-    let said = lists::next(text, channels.end);
-    let key = lists::next(text, said.end);
-    let salt = lists::next(text, key.end);
+    let channels = replay_lists::next(text, at);
+    let said = replay_lists::next(text, channels.end);
+    let key = replay_lists::next(text, said.end);
+    let salt = replay_lists::next(text, key.end);
     let written = told_at(text, salt.end);
-    let crc = lists::next(text, written.given.end);
-    let with = lists::next(text, crc.end);
+    let crc = replay_lists::next(text, written.given.end);
+    let with = replay_lists::next(text, crc.end);
     let read = told_at(text, with.end);
     Case {
         channels,
@@ -165,8 +165,8 @@ fn case_at(text: &[u8], at: usize) -> Case
 fn was_told(text: &[u8], answer: Answer, told: Told) -> bool
     requires { ⌜ Within (now text) (told .number) × Within (now text) (told .given) ⌝ }
 {
-    let number = lists::hex_number(text, told.number);
-    let given = lists::hex_number(text, told.given);
+    let number = replay_lists::hex_number(text, told.number);
+    let given = replay_lists::hex_number(text, told.given);
     number.good && given.good && is(answer, number.value, given.value)
 }
 
@@ -174,7 +174,7 @@ fn was_told(text: &[u8], answer: Answer, told: Told) -> bool
 fn has_crc(text: &[u8], crc: Field, samples: &[u8]) -> bool
     requires { ⌜ Within (now text) crc ⌝ }
 {
-    let wanted = lists::hex_number(text, crc);
+    let wanted = replay_lists::hex_number(text, crc);
     wanted.good && crc32::crc32(samples) as u64 == wanted.value
 }
 
@@ -183,7 +183,7 @@ fn key_of(text: &[u8], field: Field) -> Key
     requires { ⌜ Within (now text) field ⌝ }
 {
     let mut bytes = [0u8; 32];
-    let decoded = lists::hex_bytes(text, field, &mut bytes);
+    let decoded = replay_lists::hex_bytes(text, field, &mut bytes);
     Key {
         given: decoded.good && decoded.count == 32,
         bytes,
@@ -196,7 +196,7 @@ fn lock_of(text: &[u8], key: Field, salt: Field) -> Lock
     let stored = key_of(text, key);
     let key = stored.bytes;
     let mut bytes = [0u8; 4];
-    lists::hex_bytes(text, salt, &mut bytes);
+    replay_lists::hex_bytes(text, salt, &mut bytes);
     Lock {
         given: stored.given,
         key,
@@ -216,7 +216,7 @@ fn writes(text: &[u8], case: Case, p: Picture, samples: &mut [u8], work: &mut [f
     requires { ⌜ Whole (now text) case × (length (now work) ≤ 1048576) ⌝ }
 {
     let mut said = [0u8; 64];
-    let decoded = lists::hex_bytes(text, case.text, &mut said);
+    let decoded = replay_lists::hex_bytes(text, case.text, &mut said);
     let count = decoded.count;
     let lock = lock_of(text, case.key, case.salt);
     lend(work);
@@ -233,7 +233,7 @@ fn is_text(text: &[u8], field: Field, reading: Reading) -> bool
 {
     let read = reading.text;
     let mut wanted = [0u8; 32];
-    let decoded = lists::hex_bytes(text, field, &mut wanted);
+    let decoded = replay_lists::hex_bytes(text, field, &mut wanted);
     decoded.good && reading.length == decoded.count && check::same(&read, &wanted)
 }
 
@@ -270,7 +270,7 @@ fn samples_in(channels: usize) -> usize
 fn agrees(text: &[u8], case: Case, samples: &mut [u8], work: &mut [f32]) -> bool
     requires { ⌜ Whole (now text) case × (length (now samples) ≡ 1048576) × (length (now work) ≤ 1048576) ⌝ }
 {
-    let channels = lists::hex_number(text, case.channels);
+    let channels = replay_lists::hex_number(text, case.channels);
     let n = channels.value as usize;
     let end = samples_in(n);
     channels.good && agrees_on(text, case, n, &mut samples[0..end], work)
@@ -293,15 +293,15 @@ fn replay(text: &[u8], samples: &mut [u8], work: &mut [f32]) -> Tally
 }
 
 fn report(name: &[u8], tally: Tally) {
-    lists::report(name, tally.compared, tally.different);
+    replay_lists::report(name, tally.compared, tally.different);
 }
 
 // The list in the file `name`.
 fn list(name: &[u8], samples: &mut [u8], work: &mut [f32])
     requires { ⌜ (length (now samples) ≡ 1048576) × (length (now work) ≤ 1048576) ⌝ }
 {
-    let mut text = lists::room();
-    let end = lists::load(name, &mut text);
+    let mut text = replay_lists::room();
+    let end = replay_lists::load(name, &mut text);
     report(name, replay(&text[..end], samples, work));
 }
 
@@ -327,7 +327,7 @@ fn may_write(
 ) -> Tally {
     count(
         tally,
-        is(picture::may_write(p, samples, work), number, given),
+        is(admission::may_write(p, samples, work), number, given),
     )
 }
 
@@ -341,7 +341,7 @@ fn may_read(
 ) -> Tally {
     count(
         tally,
-        is(picture::may_read(p, samples, work), number, given),
+        is(admission::may_read(p, samples, work), number, given),
     )
 }
 
@@ -693,16 +693,19 @@ fn with_keys(votes: &[f32]) -> Tally {
         bytes: [0; 32],
     };
     let mut t = none();
-    t = count(t, says(tally::read_votes(votes, right), 0, 0));
-    t = count(t, says(tally::read_votes(votes, wrong), 13, 0));
-    count(t, says(tally::read_votes(votes, no_key()), 11, 0xeec1_11a4))
+    t = count(t, says(extract::read_votes(votes, right), 0, 0));
+    t = count(t, says(extract::read_votes(votes, wrong), 13, 0));
+    count(
+        t,
+        says(extract::read_votes(votes, no_key()), 11, 0xeec1_11a4),
+    )
 }
 
 // The file has a digit for each block: the bit that the Rust lays there of the text's record under the first key.
 fn keyed(name: &[u8]) {
-    let mut text = lists::room();
+    let mut text = replay_lists::room();
     let mut votes = [0.0f32; 1024];
-    lists::load(name, &mut text);
+    replay_lists::load(name, &mut text);
     vote_all(&text[0..1024], &mut votes);
     report(name, with_keys(&votes));
 }

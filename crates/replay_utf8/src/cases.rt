@@ -1,14 +1,14 @@
 // A list of strings, of at most eight bytes each, with the answer for each.
-ghost use Rattle.lists.specs.Fields.{Within};
-use lists::Field;
+ghost use Rattle.replay_lists.specs.Fields.{Within};
+use replay_lists::Field;
 
 fn agrees(text: &[u8], string: Field, stored: Field) -> bool
     requires { ⌜ Within (now text) string × Within (now text) stored ⌝ }
 {
     let mut bytes = [0u8; 8];
-    let decoded = lists::hex_bytes(text, string, &mut bytes);
+    let decoded = replay_lists::hex_bytes(text, string, &mut bytes);
     let count = decoded.count;
-    let expected = lists::hex_number(text, stored);
+    let expected = replay_lists::hex_number(text, stored);
     decoded.good && expected.good && super::answer(&bytes[..count]) == expected.value
 }
 
@@ -17,8 +17,8 @@ pub fn replay(text: &[u8], name: &[u8]) {
     let mut different: u64 = 0;
     let mut at = 0;
     while at < text.len() {
-        let string = lists::next(text, at);
-        let stored = lists::next(text, string.end);
+        let string = replay_lists::next(text, at);
+        let stored = replay_lists::next(text, string.end);
         at = stored.end;
         if string.start < string.end {
             compared += 1;
@@ -27,5 +27,5 @@ pub fn replay(text: &[u8], name: &[u8]) {
             }
         }
     }
-    lists::report(name, compared, different);
+    replay_lists::report(name, compared, different);
 }

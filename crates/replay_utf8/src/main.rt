@@ -18,14 +18,14 @@ fn answer(bytes: &[u8]) -> u64 {
 }
 
 fn list_short(name: &[u8]) {
-    let mut text = lists::room();
-    let count = lists::load(name, &mut text);
+    let mut text = replay_lists::room();
+    let count = replay_lists::load(name, &mut text);
     short::replay(&text[..count], name);
 }
 
 fn list_cases(name: &[u8]) {
-    let mut text = lists::room();
-    let count = lists::load(name, &mut text);
+    let mut text = replay_lists::room();
+    let count = replay_lists::load(name, &mut text);
     cases::replay(&text[..count], name);
 }
 

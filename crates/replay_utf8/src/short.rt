@@ -34,8 +34,8 @@ pub fn replay(text: &[u8], name: &[u8]) {
     let mut different: u64 = 0;
     let mut at = 0;
     for k in 0..2056 {
-        let field = lists::next(text, at);
-        let word = lists::hex_number(text, field);
+        let field = replay_lists::next(text, at);
+        let word = replay_lists::hex_number(text, field);
         at = field.end;
         if word.good {
             different += different_in(k, word.value);
@@ -43,5 +43,5 @@ pub fn replay(text: &[u8], name: &[u8]) {
             different += 32;
         }
     }
-    lists::report(name, 65_792, different);
+    replay_lists::report(name, 65_792, different);
 }

@@ -1,5 +1,5 @@
 -- Bounds through the resampling. From samples of 8 bits the plane's values are finite and at most 2 ^ 20 in size: a luma is at most 2 ^ 8, and an axis has at most 64 taps, each weight at most 1.
--- Brought up to a picture's size, a change that is at most 2 ^ k gives at most 2 ^ (k + 2), since an axis then has two taps. Assumes nothing.
+-- Brought up to a picture's size, a change that is at most 2 ^ k gives at most 2 ^ (k + 2), since an axis then has two taps.
 use mathlib.Core.Path.{_≡_, sym, _∙_, ap, subst}
 use mathlib.Core.List.{List, [], _∷_}
 use Prim.Native.Nat.{ℕ, zero, suc, _+_, _-_, _*_, _/_, _%_, _^_, _≤_, _<_}
@@ -15,9 +15,9 @@ use Rattle.seq.specs.Lines.{getD-lines}
 use Rattle.float.specs.Base.{zero+, zero-}
 use Rattle.float.specs.Bounds.{Within, Holds, holds-scaled, within-more, round-within, add-within, mul-within}
 use Rattle.float.specs.Shifted.{Room, room-power}
-use Rattle.window.specs.Window.{Tap, taps, longest}
-use Rattle.window.specs.Reach.{reach, taps-few, taps-from, taps-room-down}
-use Rattle.window.specs.Weights.{weights-within}
+use Rattle.resample_window.specs.Window.{Tap, taps, longest}
+use Rattle.resample_window.specs.Reach.{reach, taps-few, taps-from, taps-room-down}
+use Rattle.resample_window.specs.Weights.{weights-within}
 use Rattle.resample.specs.Tables.{noTap}
 use Rattle.resample.specs.Resampled.{total, across, resampled}
 use Rattle.resample.specs.Samples.{rowOf, value, lumaFrom, lumaAt, planeRow, planeOf, changeRow}

@@ -1,4 +1,4 @@
--- Rows that are kept for use again. Assumes nothing.
+-- Rows that are kept for use again.
 use mathlib.Core.Path.{_≡_, refl, sym, _∙_, ap, subst}
 use mathlib.Core.Logic.{_⊎_, inl, inr}
 use mathlib.Core.List.{List, _++_}

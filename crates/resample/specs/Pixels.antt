@@ -1,4 +1,4 @@
--- Rows of a list and their pixels of 3 or 4 channels: where they stand, and a part that is put back. Assumes nothing.
+-- Rows of a list and their pixels of 3 or 4 channels: where they stand, and a part that is put back.
 use mathlib.Core.Path.{_≡_, refl, sym, _∙_, ap, ap₂}
 use mathlib.Core.List.{List, _++_, append-assoc}
 use Prim.Native.Nat.{ℕ, _+_, _-_, _*_, _≤_, _<_}

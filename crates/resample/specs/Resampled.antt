@@ -3,7 +3,7 @@ use mathlib.Core.List.{List, [], _∷_}
 use Prim.Native.Nat.{ℕ}
 use lib.Ieee.{Float, binary32, add, mul}
 use Rattle.float.specs.Base.{zero+, zero-}
-use Rattle.window.specs.Window.{Tap, taps}
+use Rattle.resample_window.specs.Window.{Tap, taps}
 
 -- z, and then weight times value for each tap
 unfoldable pub total : Float → List Tap → (ℕ → Float) → Float

@@ -10,7 +10,7 @@ use lib.Ieee.{Float, nan, binary32, ofBits, ofInt, add, mul}
 use Rattle.seq.specs.Tab.{tab}
 use Rattle.seq.specs.Lines.{lines}
 use Rattle.float.specs.Calls.{roundedByte}
-use Rattle.window.specs.Window.{longest}
+use Rattle.resample_window.specs.Window.{longest}
 use Rattle.resample.specs.Resampled.{across, resampled}
 
 -- the sides and channels that a picture may have, and as many samples

@@ -1,4 +1,4 @@
--- Rows summed with the weights of a window: with no row, with one more, and with all, which is a row of what is resampled; and the turns of a loop over the window's numbers. Assumes nothing.
+-- Rows summed with the weights of a window: with no row, with one more, and with all, which is a row of what is resampled; and the turns of a loop over the window's numbers.
 use mathlib.Core.Path.{_≡_, sym, _∙_, ap}
 use mathlib.Core.List.{List, [], _∷_, _++_}
 use Prim.Native.Nat.{ℕ, _≤_, _<_, _+_, _^_}
@@ -11,13 +11,13 @@ use Rattle.float.specs.Base.{zero+}
 use mir.Syntax.{w64}
 use mir.Val.{toZ, ofZ}
 use mir.ValLaws.{toZ-ofZ}
-use Rattle.window.specs.declared.Window.{Window}
-use Rattle.window.specs.declared.Weight.{Weight}
-use Rattle.window.specs.declared.Weight.the-variants.{Of, Nothing}
-use Rattle.window.specs.Window.{Tap, taps, numbers, weightOf, clampOf, tapsTo}
-use Rattle.window.specs.Taps.{Small}
-use Rattle.window.specs.Signed.{small-fits, numbers-small}
-use Rattle.window.specs.Steps.{passed, taps-none, taps-one}
+use Rattle.resample_window.specs.declared.Window.{Window}
+use Rattle.resample_window.specs.declared.Weight.{Weight}
+use Rattle.resample_window.specs.declared.Weight.the-variants.{Of, Nothing}
+use Rattle.resample_window.specs.Window.{Tap, taps, numbers, weightOf, clampOf, tapsTo}
+use Rattle.resample_window.specs.Taps.{Small}
+use Rattle.resample_window.specs.Signed.{small-fits, numbers-small}
+use Rattle.resample_window.specs.Steps.{passed, taps-none, taps-one}
 use Rattle.resample.specs.Resampled.{total, across, resampled}
 use Rattle.resample.specs.Tables.{noTap, addedAt, total-more, total-same}
 

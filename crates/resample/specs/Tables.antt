@@ -1,4 +1,4 @@
--- The taps of an axis, as the tables that the crate `window` makes of them, and sums over them. Assumes nothing.
+-- The taps of an axis, as the tables that the crate `window` makes of them, and sums over them.
 use mathlib.Core.Path.{_≡_, refl, sym, _∙_, ap}
 use mathlib.Core.Logic.{inl, inr}
 use mathlib.Core.List.{List, [], _∷_, _++_}
@@ -12,9 +12,9 @@ use lib.Ieee.{Float, nan, binary32, add, mul}
 use Rattle.float.specs.Base.{zero-}
 use Rattle.seq.specs.Tab.{tab, filled, length-tab, getD-tab}
 use Rattle.seq.specs.Lines.{lines}
-use Rattle.window.specs.Window.{Tap, longest, taps}
-use Rattle.window.specs.Taps.{start, sources, weights, allTaps, onto, length-onto, start-none, start-more, start-rises}
-use Rattle.window.specs.Reach.{reach, taps-from, taps-few, taps-room-down, taps-room-up}
+use Rattle.resample_window.specs.Window.{Tap, longest, taps}
+use Rattle.resample_window.specs.Taps.{start, sources, weights, allTaps, onto, length-onto, start-none, start-more, start-rises}
+use Rattle.resample_window.specs.Reach.{reach, taps-from, taps-few, taps-room-down, taps-room-up}
 use Rattle.resample.specs.Resampled.{total, across}
 
 -- the first places hold the taps of all dst output samples, from src samples

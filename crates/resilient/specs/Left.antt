@@ -1,4 +1,4 @@
--- What writing and reading leave, by their answers: where there is a refusal all is as it was lent. Assumes nothing.
+-- What writing and reading leave, by their answers: where there is a refusal all is as it was lent.
 use mathlib.Core.Path.{_≡_, refl, sym}
 use mathlib.Core.List.{List}
 use Prim.Native.Nat.{ℕ}
@@ -12,10 +12,10 @@ use Rattle.record.specs.declared.Lock.{Lock}
 use Rattle.record.specs.Record.{refused}
 use Rattle.record.specs.Answers.{readAs}
 use Rattle.record.specs.Theorems.{refused-not-done}
-use Rattle.picture.specs.declared.Picture.{Picture}
-use Rattle.picture.specs.Admission.{readAdmission}
+use Rattle.admission.specs.declared.Picture.{Picture}
+use Rattle.admission.specs.Admission.{readAdmission}
 use Rattle.carrier.specs.Carrier.{cleared, markedSamples, pictureVotes}
-use Rattle.tally.specs.Tally.{textOf}
+use Rattle.extract.specs.Extract.{textOf}
 use Rattle.resilient.specs.Resilient.{ifDone, bitsOf, writeAnswer, writtenOf, readingFrom, readingOf}
 
 module _ {A : Type 0} (new lent : A) where

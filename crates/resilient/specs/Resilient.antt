@@ -11,13 +11,13 @@ use Rattle.record.specs.declared.Lock.{Lock}
 use Rattle.record.specs.declared.Reading.{Reading}
 use Rattle.record.specs.Record.{short, recordOf, refused, builtOf}
 use Rattle.record.specs.Answers.{readAs}
-use Rattle.build.specs.Answers.{builtAs}
+use Rattle.record_build.specs.Answers.{builtAs}
 use Rattle.layout.specs.Places.{blockBits}
 use Rattle.encoder.specs.Ccsds131.{encodeOf}
-use Rattle.picture.specs.declared.Picture.{Picture}
-use Rattle.picture.specs.Admission.{first, writeAdmission, readAdmission}
+use Rattle.admission.specs.declared.Picture.{Picture}
+use Rattle.admission.specs.Admission.{first, writeAdmission, readAdmission}
 use Rattle.carrier.specs.Carrier.{cleared, markedSamples, pictureVotes}
-use Rattle.tally.specs.Tally.{textOf}
+use Rattle.extract.specs.Extract.{textOf}
 
 -- what a thing becomes where the answer is Done; it stays as lent where there is a refusal
 unfoldable pub ifDone : {A : Type 0} → Answer → A → A → A

@@ -1,5 +1,5 @@
 -- The sample sheet of the scope paper: every line that it marks as proved, in one statement, computed over the
--- definitions. Assumes nothing.
+-- definitions.
 use mathlib.Core.Path.{_≡_, refl}
 use mathlib.Core.List.{List, [], _∷_, _++_}
 use Prim.Native.Nat.{ℕ, _+_, _*_}
@@ -12,16 +12,16 @@ use Rattle.refusal.specs.declared.Refusal.the-variants.{TextTooLong, ImageTooSm
 use Rattle.record.specs.declared.Answer.{Answer}
 use Rattle.record.specs.declared.Answer.the-variants.{Done, Refused}
 use Rattle.record.specs.declared.Lock.{Lock}
-use Rattle.build.specs.Sheet.{letters, none-passes, of-32-passes, of-33-refused}
+use Rattle.record_build.specs.Sheet.{letters, none-passes, of-32-passes, of-33-refused}
 use Rattle.encoder.specs.Ccsds131.{encodeOf}
 use Rattle.encoder.specs.Sheet.{zero-record, first-bit, last-bit}
 use Rattle.block.specs.Mark.{halfOf, markedOf}
 use Rattle.block.specs.Soft.{termOf}
 use Rattle.block.specs.Sheet.{marked-sheet, term-sheet, rest-sheet}
-use Rattle.window.specs.Sheet.{Line, tap, halved, doubled}
+use Rattle.resample_window.specs.Sheet.{Line, tap, halved, doubled}
 use Rattle.resample.specs.Samples.{changedRow}
-use Rattle.upsample.specs.Sheet.{change, written}
-use Rattle.picture.specs.Admission.{shorter, longer, roomOf, admission, writeAdmission, first}
+use Rattle.resample_up.specs.Sheet.{change, written}
+use Rattle.admission.specs.Admission.{shorter, longer, roomOf, admission, writeAdmission, first}
 use Rattle.resilient.specs.Resilient.{writeAnswer}
 
 -- the answer to writing a text into a picture with all its samples and the work area that it needs

@@ -1,4 +1,4 @@
--- A picture that is admitted has the size that resampling asks for. Assumes nothing.
+-- A picture that is admitted has the size that resampling asks for.
 use mathlib.Core.Path.{_≡_, sym, ap, _∙_}
 use mathlib.Core.List.{List}
 use Prim.Native.Nat.{ℕ, _+_, _*_, _≤_, _<_}
@@ -6,9 +6,9 @@ use native.Mathlib.Nat.{mul-assoc, mul-comm, mul-le-mul-right}
 use native.Mathlib.Omega.{arith}
 use lib.ListN.{length}
 use Rattle.resample.specs.Samples.{Sized}
-use Rattle.picture.specs.declared.Picture.{Picture}
-use Rattle.picture.specs.Admission.{roomOf}
-use Rattle.picture.specs.Admitted.{Admitted}
+use Rattle.admission.specs.declared.Picture.{Picture}
+use Rattle.admission.specs.Admission.{roomOf}
+use Rattle.admission.specs.Admitted.{Admitted}
 
 module _ (parts : ℕ) (p : Picture) (samples : List ℕ) (work : ℕ) (a : Admitted parts p (length samples) work) where
   pub sized : 0 < p .width → 0 < p .height → Sized (p .width) (p .height) (p .channels) samples

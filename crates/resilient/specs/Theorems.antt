@@ -2,7 +2,7 @@
 --   alpha-kept       a write leaves the fourth sample of every pixel as it was
 --   votes-in-unit    all votes of a picture lie from -1 to 1, so that 15 never comes from samples
 --   read-by-votes    reading from samples is reading from the votes of the picture
--- That a refused write leaves samples and work area as they were is `written-refused` in Left.antt. Assumes nothing.
+-- That a refused write leaves samples and work area as they were is `written-refused` in Left.antt.
 use mathlib.Core.Path.{_≡_, refl, sym, ap, _∙_, subst}
 use mathlib.Core.Bool.{true}
 use mathlib.Core.List.{List}
@@ -18,14 +18,14 @@ use Rattle.record.specs.declared.Lock.{Lock}
 use Rattle.record.specs.Answers.{readAs}
 use Rattle.resample.specs.Samples.{Sized, planeOf}
 use Rattle.resample.specs.Finite.{Bytes, plane-within}
-use Rattle.upsample.specs.Alpha.{fourth-kept}
-use Rattle.marking.specs.Finite.{length-votes, votes-good}
-use Rattle.picture.specs.declared.Picture.{Picture}
-use Rattle.picture.specs.Admission.{readAdmission}
-use Rattle.picture.specs.Admitted.{first-done, write-admitted, read-admitted}
+use Rattle.resample_up.specs.Alpha.{fourth-kept}
+use Rattle.plane.specs.Finite.{length-votes, votes-good}
+use Rattle.admission.specs.declared.Picture.{Picture}
+use Rattle.admission.specs.Admission.{readAdmission}
+use Rattle.admission.specs.Admitted.{first-done, write-admitted, read-admitted}
 use Rattle.carrier.specs.Carrier.{markedSamples, pictureVotes}
-use Rattle.tally.specs.Tally.{blocks, votesReading}
-use Rattle.tally.specs.Theorems.{all-good, reads-on}
+use Rattle.extract.specs.Extract.{blocks, votesReading}
+use Rattle.extract.specs.Theorems.{all-good, reads-on}
 use Rattle.resilient.specs.Resilient.{writeAnswer, writtenOf, readingOf}
 use Rattle.resilient.specs.Sized.{sized}
 use Rattle.resilient.specs.Left.{written-done, written-refused, read-done}

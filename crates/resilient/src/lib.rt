@@ -1,7 +1,7 @@
 // The mark as a whole: a text written into a picture's samples, and read from them. For the archive, its indexer and the
 // crates that offer this to them; the one place that knows the order in which writing and reading refuse. From the scope
 // paper, which specs/Resilient.antt is.
-use picture::Picture;
+use admission::Picture;
 use record::Answer;
 use record::Key;
 use record::Lock;
@@ -22,10 +22,10 @@ pub fn write(
     ensures samples { λ _. ⌜ now (samples .exit) ≡ writtenOf (now (text .entry)) lock picture (now (samples .entry)) (now (work .entry)) .samples ⌝ }
     ensures work { λ _. ⌜ now (work .exit) ≡ writtenOf (now (text .entry)) lock picture (now (samples .entry)) (now (work .entry)) .work ⌝ }
 {
-    let built = build::build_record(text, lock);
+    let built = record_build::build_record(text, lock);
     let text_answer = built.answer;
-    let picture_answer = picture::may_write(picture, samples.len(), work.len());
-    let answer = picture::first(text_answer, picture_answer);
+    let picture_answer = admission::may_write(picture, samples.len(), work.len());
+    let answer = admission::first(text_answer, picture_answer);
     let Answer::Done = answer else {
         return answer;
     };
@@ -42,12 +42,12 @@ pub fn read(samples: &[u8], picture: Picture, key: Key, work: &mut [f32]) -> Rea
     ensures reading { λ r. ⌜ r ≡ readingOf key picture (now (samples .entry)) (now (work .entry)) .reading ⌝ }
     ensures work { λ _. ⌜ now (work .exit) ≡ readingOf key picture (now (samples .entry)) (now (work .entry)) .work ⌝ }
 {
-    let answer = picture::may_read(picture, samples.len(), work.len());
+    let answer = admission::may_read(picture, samples.len(), work.len());
     match answer {
         Answer::Refused(r) => record::not_read(r),
         Answer::Done => {
             let votes = carrier::votes(samples, picture, work);
-            tally::text_of(&votes, key)
+            extract::text_of(&votes, key)
         }
     }
 }

@@ -1,4 +1,4 @@
--- Lines of one width w: joined one after another, and pasted each at a place of its own, the rest as it was. Assumes nothing.
+-- Lines of one width w: joined one after another, and pasted each at a place of its own, the rest as it was.
 use mathlib.Core.Path.{_≡_, refl, sym, _∙_, ap, ap₂}
 use mathlib.Core.Logic.{_⊎_, inl, inr}
 use mathlib.Core.List.{List, [], _++_}

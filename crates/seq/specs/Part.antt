@@ -1,4 +1,4 @@
--- A part of a list put through a function, the rest as it was: what a `&mut s[a..a + n]` leaves. Assumes nothing.
+-- A part of a list put through a function, the rest as it was: what a `&mut s[a..a + n]` leaves.
 use mathlib.Core.Path.{_≡_, _∙_, ap}
 use mathlib.Core.List.{List, _++_}
 use Prim.Native.Nat.{ℕ, _+_, _≤_, _<_}

@@ -1,4 +1,4 @@
--- Rows of one width in one list. Assumes nothing.
+-- Rows of one width in one list.
 use mathlib.Core.Path.{ap}
 use Prim.Native.Nat.{ℕ, _+_, _*_, _≤_, _<_}
 use native.Mathlib.Numerals.{add-one, add-one-le}

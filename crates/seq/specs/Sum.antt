@@ -1,4 +1,4 @@
--- A sum in index order, over any addition and from any start. Assumes nothing.
+-- A sum in index order, over any addition and from any start.
 use mathlib.Core.Path.{_≡_, refl}
 use Prim.Native.Nat.{ℕ, zero, suc, _+_, _<_}
 use native.Mathlib.Numerals.{add-one}

@@ -1,4 +1,4 @@
--- A list made by a function of the place, and a list whose first places are made so. Assumes nothing.
+-- A list made by a function of the place, and a list whose first places are made so.
 use mathlib.Core.Path.{_≡_, refl, sym, _∙_, ap, ap₂}
 use mathlib.Core.Logic.{inl, inr}
 use mathlib.Core.List.{List, [], _∷_, _++_, append-assoc, append-nil}

@@ -1,4 +1,4 @@
--- A table's rule, at each of its entries, from one test that is computed over the whole table. Assumes nothing.
+-- A table's rule, at each of its entries, from one test that is computed over the whole table.
 use mathlib.Core.Path.{_∙_, subst, sym}
 use mathlib.Core.Bool.{Bool, true, false}
 use mathlib.Core.List.{List, [], _∷_}

@@ -15,15 +15,6 @@ pub fn zero_floats(s: &mut [f32])
     }
 }
 
-// Every place 0.
-pub fn zero_bytes(s: &mut [u8])
-    ensures { λ _. ⌜ now (s .exit) ≡ replicate (length (now (s .entry))) 0 ⌝ }
-{
-    for i in 0..s.len() {
-        s[i] = 0;
-    }
-}
-
 // The bytes of `from` stand in `to` from place `at` on; the rest of `to` is as it was.
 pub fn copy_bytes(from: &[u8], to: &mut [u8], at: usize)
     requires { ⌜ at + length (now from) ≤ length (now to) ⌝ }

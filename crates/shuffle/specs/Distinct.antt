@@ -1,4 +1,4 @@
--- The entries of a shuffle are distinct and below len, for every key: an exchange keeps a list so. Assumes nothing.
+-- The entries of a shuffle are distinct and below len, for every key: an exchange keeps a list so.
 use mathlib.Core.Path.{_≡_, refl, sym, _∙_}
 use mathlib.Core.Bool.{Bool, true, false, cond}
 use mathlib.Core.Logic.{_⊎_, inl, inr}

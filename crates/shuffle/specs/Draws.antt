@@ -1,4 +1,4 @@
--- Draws: the limit by 64-bit numbers, the next draw, and that what is drawn lies below the range. Assumes nothing.
+-- Draws: the limit by 64-bit numbers, the next draw, and that what is drawn lies below the range.
 use mathlib.Core.Path.{_≡_, refl, sym, ap, _∙_}
 use mathlib.Core.Bool.{Bool, true, false, true≢false}
 use mathlib.Core.List.{List}

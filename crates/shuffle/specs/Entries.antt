@@ -1,4 +1,4 @@
--- The entries made: one more, none more, and all of them from the front of a longer list. Assumes nothing.
+-- The entries made: one more, none more, and all of them from the front of a longer list.
 use mathlib.Core.Path.{_≡_, refl, ap, _∙_}
 use mathlib.Core.Bool.{Bool, true, false, cond}
 use mathlib.Core.List.{List, []}

@@ -1,5 +1,4 @@
--- The draw and the shuffle on chosen values, which no key at hand would bring about. Computed by the definitions. Assumes
--- nothing.
+-- The draw and the shuffle on chosen values, which no key at hand would bring about. Computed by the definitions.
 use mathlib.Core.Path.{_≡_, refl}
 use mathlib.Core.Bool.{true, false}
 use mathlib.Core.List.{[], _∷_, _++_}

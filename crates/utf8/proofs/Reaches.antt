@@ -1,4 +1,4 @@
--- What follows a byte, from the place in the table of the form that it starts: it lies in that form's first range and in none before. Assumes nothing.
+-- What follows a byte, from the place in the table of the form that it starts: it lies in that form's first range and in none before.
 use mathlib.Core.Path.{_≡_, refl}
 use mathlib.Core.List.{List, [], _∷_}
 use Prim.Native.Nat.{ℕ, zero, suc}

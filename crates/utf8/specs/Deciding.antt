@@ -1,5 +1,5 @@
 -- The decision by a table is the grammar's language, and a text has one division into characters, where no two forms start with the same byte:
--- the first byte of a character alone says which form the rest has to fit. Assumes nothing.
+-- the first byte of a character alone says which form the rest has to fit.
 use mathlib.Core.Path.{_≡_, refl, sym, ap, ap₂, subst, _∙_}
 use mathlib.Core.Bool.{Bool, true, false, _&&_, _||_, cond, false≢true}
 use mathlib.Core.Logic.{_⊎_, inl, inr, _↔_, ⊎-elim}

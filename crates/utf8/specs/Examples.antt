@@ -1,4 +1,4 @@
--- RFC 3629, section 7: its four examples, character numbers and their encoding; and bytes on which the two checks differ. By computing. Assumes nothing.
+-- RFC 3629, section 7: its four examples, character numbers and their encoding; and bytes on which the two checks differ. By computing.
 use mathlib.Core.Path.{_≡_, refl}
 use mathlib.Core.Bool.{true, false}
 use mathlib.Core.List.{List, [], _∷_, map, flatten}

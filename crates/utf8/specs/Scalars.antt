@@ -1,5 +1,5 @@
 -- Section 4's characters are section 3's encodings, each of one scalar value: the value is put together again from the bytes' free bits, and section 4's
--- ranges bound it. Assumes nothing.
+-- ranges bound it.
 use mathlib.Core.Path.{_≡_, refl, sym, ap, subst, _∙_}
 use mathlib.Core.Bool.{Bool, true, false}
 use mathlib.Core.Logic.{_⊎_, inl, inr, ⊎-elim, _↔_}

@@ -1,4 +1,4 @@
--- A rule's strings are those that fit one of its forms, by induction over the rule. Assumes nothing.
+-- A rule's strings are those that fit one of its forms, by induction over the rule.
 use mathlib.Core.Path.{_≡_, refl, ap, subst}
 use mathlib.Core.Bool.{Bool, true, false, _&&_, false≢true}
 use mathlib.Core.Logic.{_⊎_, inl, inr, ⊎-elim}

@@ -1,5 +1,5 @@
 -- The laws of the two grammars: that the decisions are the languages, that a text of RFC 3629 is read in one way, as section 4's characters and as section 3's
--- values, and that the check on writing takes it too. They hold of any list of numbers: none above F7 is in a range. Assumes nothing.
+-- values, and that the check on writing takes it too. They hold of any list of numbers: none above F7 is in a range.
 use mathlib.Core.Path.{_≡_, refl, ap, ap₂, _∙_}
 use mathlib.Core.Bool.{true}
 use mathlib.Core.Logic.{_↔_}

@@ -6,8 +6,8 @@ use lib.Dec.{eqb}
 use lib.Ieee.{Float}
 use Rattle.record.specs.declared.Reading.{Reading}
 use Rattle.face.specs.Face.{lockOf, keyOf}
-use Rattle.picture.specs.declared.Picture.{Picture}
-use Rattle.tally.specs.Tally.{votesReading}
+use Rattle.admission.specs.declared.Picture.{Picture}
+use Rattle.extract.specs.Extract.{votesReading}
 use Rattle.resilient.specs.Resilient.{Written, writtenOf, Read, readingOf}
 
 -- C's flag: every number but 0 says yes

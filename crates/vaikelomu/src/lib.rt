@@ -1,7 +1,7 @@
 // The mark from C, for the archive and everyone who links the static library: writing a text into a picture, reading
 // it, and reading it from votes. Numbers and lent memory only; nothing is asked of the caller but that the memory is
 // there. `include/vaikelomu.h` says in words what is promised here.
-use picture::Picture;
+use admission::Picture;
 use record::Key;
 use record::Lock;
 use record::Reading;
@@ -122,6 +122,6 @@ pub extern "C" fn vaikelomu_read_votes(
     ensures length { λ _. ⌜ now (length .exit) ≡ votesFor (now (votes .entry)) keyed (now (key .entry)) .length ⌝ }
     ensures number { λ _. ⌜ now (given .exit) ≡ givenFor (votesFor (now (votes .entry)) keyed (now (key .entry)) .answer) ⌝ }
 {
-    let reading = tally::read_votes(votes, key_of(keyed, key));
+    let reading = extract::read_votes(votes, key_of(keyed, key));
     tell(reading, text, length, given)
 }

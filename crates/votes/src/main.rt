@@ -4,7 +4,7 @@
 fn main() {
     let mut bytes = [0u8; 4097];
     let count = io::read_full(libc::STDIN_FILENO, &mut bytes);
-    let answer = line::say(&bytes[..count]);
+    let answer = report::say(&bytes[..count]);
     let line = answer.bytes;
     let length = answer.length;
     io::write_all(libc::STDOUT_FILENO, &line[..length]);

@@ -1,11 +1,11 @@
--- After c turns the first c values are the line's; the measure is what is left of eight. Assumes nothing.
+-- After c turns the first c values are the line's; the measure is what is left of eight.
 use borrow.Author.Needs.{needs}
 use mathlib.Core.Path.{_≡_, refl}
 use Prim.Native.Nat.{_-_, _≤_}
 use native.Mathlib.Omega.{arith}
 use lib.ListN.{length, take}
 use Rattle.seq.specs.Tab.{tab, prefix-more, prefix-all}
-use Rattle.transform.specs.Grid.{cell}
+use Rattle.dct.specs.Grid.{cell}
 use Rattle.block.proofs.block_line.Statement.{statement}
 use Rattle.block.proofs.block_line.Tie as tie
 
@@ -18,30 +18,6 @@ abbrev μ-loop : tie.MeasureT-loop
 loop-holds : tie.Need-loop-holds Inv-loop μ-loop
 unfolding tab
 loop-holds c = (search needs, refl, refl)
-
-mul-line : tie.Need-mul-line Inv-loop μ-loop
-mul-line c = search needs
-
-add-line : tie.Need-add-line Inv-loop μ-loop
-add-line c = search needs
-
-mul-line-2 : tie.Need-mul-line-2 Inv-loop μ-loop
-mul-line-2 c = search needs
-
-element-copy-out-line : tie.Need-element-copy-out-line Inv-loop μ-loop
-element-copy-out-line c = search needs
-
-mul-line-3 : tie.Need-mul-line-3 Inv-loop μ-loop
-mul-line-3 c = search needs
-
-array-write-line : tie.Need-array-write-line Inv-loop μ-loop
-array-write-line c = search needs
-
-add-c : tie.Need-add-c Inv-loop μ-loop
-add-c c = search needs
-
-loop-less : tie.Need-loop-less Inv-loop μ-loop
-loop-less c = search needs
 
 loop-again : tie.Need-loop-again Inv-loop μ-loop
 loop-again c = (search needs, search needs, prefix-more _ _ _ _ (omega arith) refl (c .before .before .loop .inv .2))
@@ -58,13 +34,13 @@ block-line-spec =
     Inv-loop
     μ-loop
     loop-holds
-    mul-line
-    add-line
-    mul-line-2
-    element-copy-out-line
-    mul-line-3
-    array-write-line
-    add-c
-    loop-less
+    (λ c. search needs)
+    (λ c. search needs)
+    (λ c. search needs)
+    (λ c. search needs)
+    (λ c. search needs)
+    (λ c. search needs)
+    (λ c. search needs)
+    (λ c. search needs)
     loop-again
     returns)

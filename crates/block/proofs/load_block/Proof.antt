@@ -1,4 +1,4 @@
--- After r turns the first r lines stand in the block; the measure is what is left of eight. Assumes nothing.
+-- After r turns the first r lines stand in the block; the measure is what is left of eight.
 use borrow.Author.Needs.{needs}
 use mathlib.Core.Path.{_≡_, refl, sym, _∙_, ap, ap₂}
 use mathlib.Core.List.{List}
@@ -11,7 +11,7 @@ use lib.Seq.{paste, length-paste, take-all}
 use lib.Ieee.{Float, nan}
 use Rattle.seq.specs.Tab.{tab, length-tab}
 use Rattle.seq.specs.Lines.{lines, lines-more, part-tab}
-use Rattle.transform.specs.Grid.{grid, lineOf}
+use Rattle.dct.specs.Grid.{grid, lineOf}
 use Rattle.block.specs.Plane.{lineAt, loadOf, line-fits}
 use Rattle.block.proofs.load_block.Statement.{statement}
 use Rattle.block.proofs.load_block.Tie as tie
@@ -47,38 +47,14 @@ loop-holds : tie.Need-loop-holds Inv-loop μ-loop
 unfolding lines
 loop-holds c = (search needs, (refl, refl))
 
-line-at-requires : tie.Need-line-at-requires Inv-loop μ-loop
-line-at-requires c κs = search needs
-
 add-end : tie.Need-add-end Inv-loop μ-loop
 add-end c = omega (arith, fits c)
 
 mul-copy-floats : tie.Need-mul-copy-floats Inv-loop μ-loop
 mul-copy-floats c = omega (arith, fits c)
 
-sub-copy-floats : tie.Need-sub-copy-floats Inv-loop μ-loop
-sub-copy-floats c = search needs
-
-part-copy-floats-start : tie.Need-part-copy-floats-start Inv-loop μ-loop
-part-copy-floats-start c = search needs
-
 part-copy-floats-end : tie.Need-part-copy-floats-end Inv-loop μ-loop
 part-copy-floats-end c = omega (arith, fits c)
-
-slice-aggregate-copy-floats : tie.Need-slice-aggregate-copy-floats Inv-loop μ-loop
-slice-aggregate-copy-floats c = search needs
-
-mul-copy-floats-2 : tie.Need-mul-copy-floats-2 Inv-loop μ-loop
-mul-copy-floats-2 c = search needs
-
-copy-floats-requires : tie.Need-copy-floats-requires Inv-loop μ-loop
-copy-floats-requires c κs = search needs
-
-add-r : tie.Need-add-r Inv-loop μ-loop
-add-r c = search needs
-
-loop-less : tie.Need-loop-less Inv-loop μ-loop
-loop-less c = search needs
 
 loop-again : tie.Need-loop-again Inv-loop μ-loop
 loop-again c =
@@ -104,16 +80,16 @@ load-block-spec =
     Inv-loop
     μ-loop
     loop-holds
-    line-at-requires
+    (λ c κs. search needs)
     add-end
     mul-copy-floats
-    sub-copy-floats
-    part-copy-floats-start
+    (λ c. search needs)
+    (λ c. search needs)
     part-copy-floats-end
-    slice-aggregate-copy-floats
-    mul-copy-floats-2
-    copy-floats-requires
-    add-r
-    loop-less
+    (λ c. search needs)
+    (λ c. search needs)
+    (λ c κs. search needs)
+    (λ c. search needs)
+    (λ c. search needs)
     loop-again
     returns)

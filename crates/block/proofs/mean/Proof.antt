@@ -1,4 +1,4 @@
--- The sum and its quotient, as they stand. Assumes nothing.
+-- The sum and its quotient, as they stand.
 use mathlib.Core.Path.{refl}
 use lib.Ieee.{neg, ofBits}
 use Rattle.seq.specs.Sum.{sumTo}

@@ -1,4 +1,4 @@
--- After r turns the first r lines stand in their places; the measure is what is left of eight. Assumes nothing.
+-- After r turns the first r lines stand in their places; the measure is what is left of eight.
 use borrow.Author.Needs.{needs}
 use mathlib.Core.Path.{_≡_, refl, _∙_}
 use Prim.Native.Nat.{_+_, _-_, _≤_}
@@ -6,7 +6,7 @@ use native.Mathlib.Omega.{arith}
 use lib.ListN.{length}
 use Rattle.seq.specs.Tab.{length-tab}
 use Rattle.seq.specs.Lines.{pasted, pasted-none, pasted-more}
-use Rattle.transform.specs.Grid.{cell, lineOf}
+use Rattle.dct.specs.Grid.{cell, lineOf}
 use Rattle.block.specs.Plane.{lineAt, storedOf, line-fits}
 use Rattle.block.proofs.store_block.Statement.{statement}
 use Rattle.block.proofs.store_block.Tie as tie
@@ -24,23 +24,8 @@ fits c = rw (c .line-at .ensures) (line-fits _ _ (c .before .before .before .bef
 loop-holds : tie.Need-loop-holds Inv-loop μ-loop
 loop-holds c = (search needs, refl, pasted-none _ _ _ _)
 
-line-at-requires : tie.Need-line-at-requires Inv-loop μ-loop
-line-at-requires c κs = search needs
-
-block-line-requires : tie.Need-block-line-requires Inv-loop μ-loop
-block-line-requires c κs = search needs
-
-slice-aggregate-copy-floats : tie.Need-slice-aggregate-copy-floats Inv-loop μ-loop
-slice-aggregate-copy-floats c = search needs
-
 copy-floats-requires : tie.Need-copy-floats-requires Inv-loop μ-loop
 copy-floats-requires c κs = omega (arith, fits (c .before .before .before))
-
-add-r : tie.Need-add-r Inv-loop μ-loop
-add-r c = search needs
-
-loop-less : tie.Need-loop-less Inv-loop μ-loop
-loop-less c = search needs
 
 loop-again : tie.Need-loop-again Inv-loop μ-loop
 loop-again c =
@@ -51,9 +36,6 @@ loop-again c =
       search needs,
       done .copy-floats .ensures ∙ rw (turn .block-line .ensures, length-tab, turn .before .line-at .ensures, loop .loop .inv .2) (pasted-more _ _ _ _ _),
     )
-
-same-length : tie.Need-same-length Inv-loop μ-loop
-same-length c = search needs
 
 returns : tie.Need-returns Inv-loop μ-loop
 unfolding storedOf
@@ -66,12 +48,12 @@ store-block-spec =
     Inv-loop
     μ-loop
     loop-holds
-    line-at-requires
-    block-line-requires
-    slice-aggregate-copy-floats
+    (λ c κs. search needs)
+    (λ c κs. search needs)
+    (λ c. search needs)
     copy-floats-requires
-    add-r
-    loop-less
+    (λ c. search needs)
+    (λ c. search needs)
     loop-again
-    same-length
+    (λ c. search needs)
     returns)

@@ -1,4 +1,4 @@
--- The calls' results put in their places. Assumes nothing.
+-- The calls' results put in their places.
 use borrow.Author.Needs.{needs}
 use lib.Ieee.{ofBits}
 use Rattle.float.specs.Vote.{term}
@@ -6,15 +6,9 @@ use Rattle.block.specs.Soft.{termOf}
 use Rattle.block.proofs.vote_term.Statement.{statement}
 use Rattle.block.proofs.vote_term.Tie as tie
 
-floor-f32-requires : tie.Need-floor-f32-requires
-floor-f32-requires c κs = search needs
-
-min-f32-requires : tie.Need-min-f32-requires
-min-f32-requires c κs = search needs
-
 returns : tie.Need-returns
 unfolding termOf term ofBits
 returns c = rw (c .min-f32 .ensures, c .before .floor-f32 .ensures)
 
 pub vote-term-spec : {M : Type 1} → statement M
-vote-term-spec = tie.close (tie.spec floor-f32-requires min-f32-requires returns)
+vote-term-spec = tie.close (tie.spec (λ c κs. search needs) (λ c κs. search needs) returns)

@@ -1,4 +1,4 @@
--- The plane is put back into the work area, which is then cleared. Assumes nothing.
+-- The plane is put back into the work area, which is then cleared.
 use mathlib.Core.Path.{_∙_}
 use lib.Ieee.{ofBits}
 use denote.Ref.{now}
@@ -6,27 +6,6 @@ use borrow.Author.Needs.{needs}
 use Rattle.carrier.specs.Laws.{put-back-cleared}
 use Rattle.carrier.proofs.mark.Statement.{statement}
 use Rattle.carrier.proofs.mark.Tie as tie
-
-sub-put-bits : tie.Need-sub-put-bits
-sub-put-bits c = search needs
-
-part-put-bits-start : tie.Need-part-put-bits-start
-part-put-bits-start c = search needs
-
-part-put-bits-end : tie.Need-part-put-bits-end
-part-put-bits-end c = search needs
-
-put-bits-requires : tie.Need-put-bits-requires
-put-bits-requires c κs = search needs
-
-zero-floats-requires : tie.Need-zero-floats-requires
-zero-floats-requires c κs = search needs
-
-same-length : tie.Need-same-length
-same-length c = search needs
-
-same-length-2 : tie.Need-same-length-2
-same-length-2 c = search needs
 
 returns : tie.Need-returns
 unfolding ofBits
@@ -41,11 +20,11 @@ pub mark-spec : {M : Type 1} → statement M
 mark-spec =
     tie.close
     (tie.spec
-    sub-put-bits
-    part-put-bits-start
-    part-put-bits-end
-    put-bits-requires
-    zero-floats-requires
-    same-length
-    same-length-2
+    (λ c. search needs)
+    (λ c. search needs)
+    (λ c. search needs)
+    (λ c κs. search needs)
+    (λ c κs. search needs)
+    (λ c. search needs)
+    (λ c. search needs)
     returns)

@@ -1,4 +1,4 @@
--- The plane is put back into the work area, which is then cleared. Assumes nothing.
+-- The plane is put back into the work area, which is then cleared.
 use mathlib.Core.Path.{_∙_}
 use lib.Ieee.{ofBits}
 use denote.Ref.{now}
@@ -6,24 +6,6 @@ use borrow.Author.Needs.{needs}
 use Rattle.carrier.specs.Laws.{put-back-cleared}
 use Rattle.carrier.proofs.votes.Statement.{statement}
 use Rattle.carrier.proofs.votes.Tie as tie
-
-sub-plane-votes : tie.Need-sub-plane-votes
-sub-plane-votes c = search needs
-
-part-plane-votes-start : tie.Need-part-plane-votes-start
-part-plane-votes-start c = search needs
-
-part-plane-votes-end : tie.Need-part-plane-votes-end
-part-plane-votes-end c = search needs
-
-plane-votes-requires : tie.Need-plane-votes-requires
-plane-votes-requires c κs = search needs
-
-zero-floats-requires : tie.Need-zero-floats-requires
-zero-floats-requires c κs = search needs
-
-same-length : tie.Need-same-length
-same-length c = search needs
 
 returns : tie.Need-returns
 unfolding ofBits
@@ -38,10 +20,10 @@ pub votes-spec : {M : Type 1} → statement M
 votes-spec =
     tie.close
     (tie.spec
-    sub-plane-votes
-    part-plane-votes-start
-    part-plane-votes-end
-    plane-votes-requires
-    zero-floats-requires
-    same-length
+    (λ c. search needs)
+    (λ c. search needs)
+    (λ c. search needs)
+    (λ c κs. search needs)
+    (λ c κs. search needs)
+    (λ c. search needs)
     returns)

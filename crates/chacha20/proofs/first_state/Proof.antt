@@ -1,42 +1,9 @@
--- At 8 and at 3 the tables of words compute to the words themselves, one call each. Assumes nothing.
+-- At 8 and at 3 the tables of words compute to the words themselves, one call each.
 use borrow.Author.Needs.{needs}
 use Rattle.seq.specs.Tab.{tab}
 use Rattle.chacha20.specs.Rfc8439.{initial}
 use Rattle.chacha20.proofs.first_state.Statement.{statement}
 use Rattle.chacha20.proofs.first_state.Tie as tie
-
-word-at-requires : tie.Need-word-at-requires
-word-at-requires c κs = search needs
-
-word-at-requires-2 : tie.Need-word-at-requires-2
-word-at-requires-2 c κs = search needs
-
-word-at-requires-3 : tie.Need-word-at-requires-3
-word-at-requires-3 c κs = search needs
-
-word-at-requires-4 : tie.Need-word-at-requires-4
-word-at-requires-4 c κs = search needs
-
-word-at-requires-5 : tie.Need-word-at-requires-5
-word-at-requires-5 c κs = search needs
-
-word-at-requires-6 : tie.Need-word-at-requires-6
-word-at-requires-6 c κs = search needs
-
-word-at-requires-7 : tie.Need-word-at-requires-7
-word-at-requires-7 c κs = search needs
-
-word-at-requires-8 : tie.Need-word-at-requires-8
-word-at-requires-8 c κs = search needs
-
-word-at-requires-9 : tie.Need-word-at-requires-9
-word-at-requires-9 c κs = search needs
-
-word-at-requires-10 : tie.Need-word-at-requires-10
-word-at-requires-10 c κs = search needs
-
-word-at-requires-11 : tie.Need-word-at-requires-11
-word-at-requires-11 c κs = search needs
 
 returns : tie.Need-returns
 unfolding initial tab
@@ -57,15 +24,15 @@ pub first-state-spec : {M : Type 1} → statement M
 first-state-spec =
     tie.close
     (tie.spec
-    word-at-requires
-    word-at-requires-2
-    word-at-requires-3
-    word-at-requires-4
-    word-at-requires-5
-    word-at-requires-6
-    word-at-requires-7
-    word-at-requires-8
-    word-at-requires-9
-    word-at-requires-10
-    word-at-requires-11
+    (λ c κs. search needs)
+    (λ c κs. search needs)
+    (λ c κs. search needs)
+    (λ c κs. search needs)
+    (λ c κs. search needs)
+    (λ c κs. search needs)
+    (λ c κs. search needs)
+    (λ c κs. search needs)
+    (λ c κs. search needs)
+    (λ c κs. search needs)
+    (λ c κs. search needs)
     returns)

@@ -1,33 +1,8 @@
--- The eight calls, the last first, are the definition's chain but for the exchange, which `exchanged-inner` undoes. Assumes
--- nothing.
+-- The eight calls, the last first, are the definition's chain but for the exchange, which `exchanged-inner` undoes.
 use borrow.Author.Needs.{needs}
 use Rattle.chacha20.specs.Order.{exchanged-inner}
 use Rattle.chacha20.proofs.inner_block.Statement.{statement}
 use Rattle.chacha20.proofs.inner_block.Tie as tie
-
-quarter-round-requires : tie.Need-quarter-round-requires
-quarter-round-requires c κs = search needs
-
-quarter-round-requires-2 : tie.Need-quarter-round-requires-2
-quarter-round-requires-2 c κs = search needs
-
-quarter-round-requires-3 : tie.Need-quarter-round-requires-3
-quarter-round-requires-3 c κs = search needs
-
-quarter-round-requires-4 : tie.Need-quarter-round-requires-4
-quarter-round-requires-4 c κs = search needs
-
-quarter-round-requires-5 : tie.Need-quarter-round-requires-5
-quarter-round-requires-5 c κs = search needs
-
-quarter-round-requires-6 : tie.Need-quarter-round-requires-6
-quarter-round-requires-6 c κs = search needs
-
-quarter-round-requires-7 : tie.Need-quarter-round-requires-7
-quarter-round-requires-7 c κs = search needs
-
-quarter-round-requires-8 : tie.Need-quarter-round-requires-8
-quarter-round-requires-8 c κs = search needs
 
 returns : tie.Need-returns
 returns c =
@@ -45,12 +20,12 @@ pub inner-block-spec : {M : Type 1} → statement M
 inner-block-spec =
     tie.close
     (tie.spec
-    quarter-round-requires
-    quarter-round-requires-2
-    quarter-round-requires-3
-    quarter-round-requires-4
-    quarter-round-requires-5
-    quarter-round-requires-6
-    quarter-round-requires-7
-    quarter-round-requires-8
+    (λ c κs. search needs)
+    (λ c κs. search needs)
+    (λ c κs. search needs)
+    (λ c κs. search needs)
+    (λ c κs. search needs)
+    (λ c κs. search needs)
+    (λ c κs. search needs)
+    (λ c κs. search needs)
     returns)

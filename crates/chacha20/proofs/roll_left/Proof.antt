@@ -1,4 +1,4 @@
--- The two shifts have no digit in common (`turned`), so their `|` is a sum, as in the definition. Assumes nothing.
+-- The two shifts have no digit in common (`turned`), so their `|` is a sum, as in the definition.
 use borrow.Author.Needs.{needs}
 use mathlib.Core.Path.{_≡_, _∙_}
 use Prim.Native.Nat.{ℕ, _+_, _-_, _*_, _/_, _%_, _^_, _<_}
@@ -15,15 +15,6 @@ turned j k x h =
     let cut : x * 2 ^ k % 2 ^ (j + k) ≡ x % 2 ^ j * 2 ^ k = mod-pow-add (x * 2 ^ k) j k ∙ rw (shl-shr, mul-mod-left) (add-zero _) in
     rw cut (or-shifted (x % 2 ^ j) k (x / 2 ^ j) (shr-lt k j (rw add-comm at h)))
 
-shl-result : tie.Need-shl-result
-shl-result c = search needs
-
-sub-result : tie.Need-sub-result
-sub-result c = search needs
-
-shr-result : tie.Need-shr-result
-shr-result c = search needs
-
 returns : tie.Need-returns
 returns c =
     let x = c .args .x in
@@ -32,4 +23,4 @@ returns c =
     rw whole at (turned (32 - n) n x (rw whole (c .fits .x .fits)))
 
 pub roll-left-spec : {M : Type 1} → statement M
-roll-left-spec = tie.close (tie.spec shl-result sub-result shr-result returns)
+roll-left-spec = tie.close (tie.spec (λ c. search needs) (λ c. search needs) (λ c. search needs) returns)

@@ -1,5 +1,5 @@
 -- After i turns the first 4 * i bytes are those of the first i sums; a turn stores the four bytes of one more
--- (`stored`, `serialized-more`). The measure is what is left of sixteen. Assumes nothing.
+-- (`stored`, `serialized-more`). The measure is what is left of sixteen.
 use borrow.Author.Needs.{needs}
 use mathlib.Core.Path.{_≡_, refl, sym, _∙_}
 use mathlib.Core.List.{List, [], _∷_, _++_}
@@ -35,63 +35,6 @@ loop-holds : tie.Need-loop-holds Inv-loop μ-loop
 unfolding tab serialized
 loop-holds c = (search needs, refl, refl)
 
-mul-wrapping-add-u32 : tie.Need-mul-wrapping-add-u32 Inv-loop μ-loop
-mul-wrapping-add-u32 c = search needs
-
-element-copy-out-wrapping-add-u32 : tie.Need-element-copy-out-wrapping-add-u32 Inv-loop μ-loop
-element-copy-out-wrapping-add-u32 c = search needs
-
-mul-wrapping-add-u32-2 : tie.Need-mul-wrapping-add-u32-2 Inv-loop μ-loop
-mul-wrapping-add-u32-2 c = search needs
-
-element-copy-out-wrapping-add-u32-2 : tie.Need-element-copy-out-wrapping-add-u32-2 Inv-loop μ-loop
-element-copy-out-wrapping-add-u32-2 c = search needs
-
-wrapping-add-u32-requires : tie.Need-wrapping-add-u32-requires Inv-loop μ-loop
-wrapping-add-u32-requires c κs = search needs
-
-mul-at : tie.Need-mul-at Inv-loop μ-loop
-mul-at c = search needs
-
-cast-out : tie.Need-cast-out Inv-loop μ-loop
-cast-out c = search needs
-
-array-write-out : tie.Need-array-write-out Inv-loop μ-loop
-array-write-out c = search needs
-
-cast-out-2 : tie.Need-cast-out-2 Inv-loop μ-loop
-cast-out-2 c = search needs
-
-add-out : tie.Need-add-out Inv-loop μ-loop
-add-out c = search needs
-
-array-write-out-2 : tie.Need-array-write-out-2 Inv-loop μ-loop
-array-write-out-2 c = search needs
-
-cast-out-3 : tie.Need-cast-out-3 Inv-loop μ-loop
-cast-out-3 c = search needs
-
-add-out-2 : tie.Need-add-out-2 Inv-loop μ-loop
-add-out-2 c = search needs
-
-array-write-out-3 : tie.Need-array-write-out-3 Inv-loop μ-loop
-array-write-out-3 c = search needs
-
-cast-out-4 : tie.Need-cast-out-4 Inv-loop μ-loop
-cast-out-4 c = search needs
-
-add-out-3 : tie.Need-add-out-3 Inv-loop μ-loop
-add-out-3 c = search needs
-
-array-write-out-4 : tie.Need-array-write-out-4 Inv-loop μ-loop
-array-write-out-4 c = search needs
-
-add-i : tie.Need-add-i Inv-loop μ-loop
-add-i c = search needs
-
-loop-less : tie.Need-loop-less Inv-loop μ-loop
-loop-less c = search needs
-
 loop-again : tie.Need-loop-again Inv-loop μ-loop
 unfolding littleEndian
 loop-again c =
@@ -114,24 +57,24 @@ sum-bytes-spec =
     Inv-loop
     μ-loop
     loop-holds
-    mul-wrapping-add-u32
-    element-copy-out-wrapping-add-u32
-    mul-wrapping-add-u32-2
-    element-copy-out-wrapping-add-u32-2
-    wrapping-add-u32-requires
-    mul-at
-    cast-out
-    array-write-out
-    cast-out-2
-    add-out
-    array-write-out-2
-    cast-out-3
-    add-out-2
-    array-write-out-3
-    cast-out-4
-    add-out-3
-    array-write-out-4
-    add-i
-    loop-less
+    (λ c. search needs)
+    (λ c. search needs)
+    (λ c. search needs)
+    (λ c. search needs)
+    (λ c κs. search needs)
+    (λ c. search needs)
+    (λ c. search needs)
+    (λ c. search needs)
+    (λ c. search needs)
+    (λ c. search needs)
+    (λ c. search needs)
+    (λ c. search needs)
+    (λ c. search needs)
+    (λ c. search needs)
+    (λ c. search needs)
+    (λ c. search needs)
+    (λ c. search needs)
+    (λ c. search needs)
+    (λ c. search needs)
     loop-again
     returns)

@@ -1,4 +1,4 @@
--- After n turns the state is that of n inner blocks; the measure is what is left of ten. Assumes nothing.
+-- After n turns the state is that of n inner blocks; the measure is what is left of ten.
 use borrow.Author.Needs.{needs}
 use mathlib.Core.Path.{_≡_}
 use Prim.Native.Nat.{_-_, _≤_}
@@ -18,15 +18,6 @@ loop-holds : tie.Need-loop-holds Inv-loop μ-loop
 unfolding rounds
 loop-holds c = search needs
 
-inner-block-requires : tie.Need-inner-block-requires Inv-loop μ-loop
-inner-block-requires c κs = search needs
-
-add-counter : tie.Need-add-counter Inv-loop μ-loop
-add-counter c = search needs
-
-loop-less : tie.Need-loop-less Inv-loop μ-loop
-loop-less c = search needs
-
 loop-again : tie.Need-loop-again Inv-loop μ-loop
 unfolding rounds
 loop-again c = (search needs, rw add-one (cc))
@@ -41,8 +32,8 @@ ten-times-spec =
     Inv-loop
     μ-loop
     loop-holds
-    inner-block-requires
-    add-counter
-    loop-less
+    (λ c κs. search needs)
+    (λ c. search needs)
+    (λ c. search needs)
     loop-again
     returns)

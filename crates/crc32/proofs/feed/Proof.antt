@@ -17,30 +17,6 @@ Inv-loop words start bytes sum₀ x₀ i₀ i-end sum x i =
 abbrev μ-loop : tie.MeasureT-loop
 μ-loop words start bytes sum₀ x₀ i₀ i-end sum x i = i-end - i
 
-loop-holds : tie.Need-loop-holds Inv-loop μ-loop
-loop-holds c = search needs
-
-sub-look-byte : tie.Need-sub-look-byte Inv-loop μ-loop
-sub-look-byte c = search needs
-
-sub-look-byte-2 : tie.Need-sub-look-byte-2 Inv-loop μ-loop
-sub-look-byte-2 c = search needs
-
-shared-slice-read-from-u8 : tie.Need-shared-slice-read-from-u8 Inv-loop μ-loop
-shared-slice-read-from-u8 c = search needs
-
-from-u8-requires : tie.Need-from-u8-requires Inv-loop μ-loop
-from-u8-requires c κs = search needs
-
-look-byte-requires : tie.Need-look-byte-requires Inv-loop μ-loop
-look-byte-requires c κs = search needs
-
-add-i : tie.Need-add-i Inv-loop μ-loop
-add-i c = search needs
-
-loop-less : tie.Need-loop-less Inv-loop μ-loop
-loop-less c = search needs
-
 loop-again : tie.Need-loop-again Inv-loop μ-loop
 loop-again c =
     let l = c .before .before .before .before .loop in
@@ -60,13 +36,13 @@ feed-spec =
     (tie.spec
     Inv-loop
     μ-loop
-    loop-holds
-    sub-look-byte
-    sub-look-byte-2
-    shared-slice-read-from-u8
-    from-u8-requires
-    look-byte-requires
-    add-i
-    loop-less
+    (λ c. search needs)
+    (λ c. search needs)
+    (λ c. search needs)
+    (λ c. search needs)
+    (λ c κs. search needs)
+    (λ c κs. search needs)
+    (λ c. search needs)
+    (λ c. search needs)
     loop-again
     returns)

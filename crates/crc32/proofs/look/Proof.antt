@@ -5,21 +5,6 @@ use Rattle.crc32.specs.Table.{table-at}
 use Rattle.crc32.proofs.look.Statement.{statement}
 use Rattle.crc32.proofs.look.Tie as tie
 
-mul-from-u32 : tie.Need-mul-from-u32
-mul-from-u32 c = search needs
-
-add-from-u32 : tie.Need-add-from-u32
-add-from-u32 c = search needs
-
-mul-from-u32-2 : tie.Need-mul-from-u32-2
-mul-from-u32-2 c = search needs
-
-element-copy-out-from-u32 : tie.Need-element-copy-out-from-u32
-element-copy-out-from-u32 c = search needs
-
-from-u32-requires : tie.Need-from-u32-requires
-from-u32-requires c κs = search needs
-
 returns : tie.Need-returns
 returns c =
     let start = c .before .before in
@@ -27,4 +12,4 @@ returns c =
 
 pub look-spec : {M : Type 1} → statement M
 look-spec =
-    tie.close (tie.spec mul-from-u32 add-from-u32 mul-from-u32-2 element-copy-out-from-u32 from-u32-requires returns)
+    tie.close (tie.spec (λ c. search needs) (λ c. search needs) (λ c. search needs) (λ c. search needs) (λ c κs. search needs) returns)

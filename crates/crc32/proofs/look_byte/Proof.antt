@@ -6,21 +6,6 @@ use Rattle.crc32.specs.Table.{byte-halves}
 use Rattle.crc32.proofs.look_byte.Statement.{statement}
 use Rattle.crc32.proofs.look_byte.Tie as tie
 
-mul-look : tie.Need-mul-look
-mul-look c = search needs
-
-add-look : tie.Need-add-look
-add-look c = search needs
-
-look-requires : tie.Need-look-requires
-look-requires c κs = search needs
-
-mul-look-2 : tie.Need-mul-look-2
-mul-look-2 c = search needs
-
-look-requires-2 : tie.Need-look-requires-2
-look-requires-2 c κs = search needs
-
 returns : tie.Need-returns
 returns c =
     let a = c .before .before .args in
@@ -28,4 +13,4 @@ returns c =
 
 pub look-byte-spec : {M : Type 1} → statement M
 look-byte-spec =
-    tie.close (tie.spec mul-look add-look look-requires mul-look-2 look-requires-2 returns)
+    tie.close (tie.spec (λ c. search needs) (λ c. search needs) (λ c κs. search needs) (λ c. search needs) (λ c κs. search needs) returns)

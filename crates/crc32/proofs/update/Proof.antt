@@ -15,50 +15,11 @@ Inv-loop words bytes x₀ i₀ x i = (i ≤ length bytes) × (after x (drop i by
 abbrev μ-loop : tie.MeasureT-loop
 μ-loop words bytes x₀ i₀ x i = length bytes - i
 
-loop-holds : tie.Need-loop-holds Inv-loop μ-loop
-loop-holds c = search needs
-
-sub-loop : tie.Need-sub-loop Inv-loop μ-loop
-sub-loop c = search needs
-
-add-feed : tie.Need-add-feed Inv-loop μ-loop
-add-feed c = search needs
-
-sub-feed : tie.Need-sub-feed Inv-loop μ-loop
-sub-feed c = search needs
-
-part-feed-start : tie.Need-part-feed-start Inv-loop μ-loop
-part-feed-start c = search needs
-
-part-feed-end : tie.Need-part-feed-end Inv-loop μ-loop
-part-feed-end c = search needs
-
-feed-requires : tie.Need-feed-requires Inv-loop μ-loop
-feed-requires c κs = search needs
-
-add-i : tie.Need-add-i Inv-loop μ-loop
-add-i c = search needs
-
-loop-less : tie.Need-loop-less Inv-loop μ-loop
-loop-less c = search needs
-
 loop-again : tie.Need-loop-again Inv-loop μ-loop
 loop-again c =
     let l = c .before .before .before .loop in
     let s = c .before .before .before .before .before .args .bytes .now in
     (search needs, ap (λ (x : ℕ). after x (drop (l .i + 8) s)) (c .feed .ensures) ∙ after-block (l .x) (l .i) (l .i + 8) s (omega arith) ∙ l .inv .1)
-
-sub-feed-2 : tie.Need-sub-feed-2 Inv-loop μ-loop
-sub-feed-2 c = search needs
-
-part-feed-start-2 : tie.Need-part-feed-start-2 Inv-loop μ-loop
-part-feed-start-2 c = search needs
-
-part-feed-end-2 : tie.Need-part-feed-end-2 Inv-loop μ-loop
-part-feed-end-2 c = search needs
-
-feed-requires-2 : tie.Need-feed-requires-2 Inv-loop μ-loop
-feed-requires-2 c κs = search needs
 
 returns : tie.Need-returns Inv-loop μ-loop
 returns c =
@@ -72,18 +33,18 @@ update-spec =
     (tie.spec
     Inv-loop
     μ-loop
-    loop-holds
-    sub-loop
-    add-feed
-    sub-feed
-    part-feed-start
-    part-feed-end
-    feed-requires
-    add-i
-    loop-less
+    (λ c. search needs)
+    (λ c. search needs)
+    (λ c. search needs)
+    (λ c. search needs)
+    (λ c. search needs)
+    (λ c. search needs)
+    (λ c κs. search needs)
+    (λ c. search needs)
+    (λ c. search needs)
     loop-again
-    sub-feed-2
-    part-feed-start-2
-    part-feed-end-2
-    feed-requires-2
+    (λ c. search needs)
+    (λ c. search needs)
+    (λ c. search needs)
+    (λ c κs. search needs)
     returns)

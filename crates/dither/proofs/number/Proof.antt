@@ -1,4 +1,4 @@
--- The upper 24 bits of a word are a float as they stand. Assumes nothing.
+-- The upper 24 bits of a word are a float as they stand.
 use mathlib.Core.Path.{refl}
 use Prim.Native.Nat.{_/_, _≤_, _^_}
 use native.Mathlib.Omega.{arith}

@@ -1,4 +1,4 @@
--- The first k numbers stand, k rising. Assumes nothing.
+-- The first k numbers stand, k rising.
 use borrow.Author.Needs.{needs}
 use mathlib.Core.Path.{_≡_, refl}
 use Prim.Native.Nat.{_-_, _≤_, _<_}
@@ -19,48 +19,6 @@ abbrev μ-loop : tie.MeasureT-loop
 loop-holds : tie.Need-loop-holds Inv-loop μ-loop
 unfolding tab
 loop-holds c = (omega arith, refl, refl)
-
-mul-i : tie.Need-mul-i Inv-loop μ-loop
-mul-i c = search needs
-
-element-copy-out-little-endian : tie.Need-element-copy-out-little-endian Inv-loop μ-loop
-element-copy-out-little-endian c = search needs
-
-add-little-endian : tie.Need-add-little-endian Inv-loop μ-loop
-add-little-endian c = search needs
-
-element-copy-out-little-endian-2 : tie.Need-element-copy-out-little-endian-2 Inv-loop μ-loop
-element-copy-out-little-endian-2 c = search needs
-
-add-little-endian-2 : tie.Need-add-little-endian-2 Inv-loop μ-loop
-add-little-endian-2 c = search needs
-
-element-copy-out-little-endian-3 : tie.Need-element-copy-out-little-endian-3 Inv-loop μ-loop
-element-copy-out-little-endian-3 c = search needs
-
-add-little-endian-3 : tie.Need-add-little-endian-3 Inv-loop μ-loop
-add-little-endian-3 c = search needs
-
-element-copy-out-little-endian-4 : tie.Need-element-copy-out-little-endian-4 Inv-loop μ-loop
-element-copy-out-little-endian-4 c = search needs
-
-little-endian-requires : tie.Need-little-endian-requires Inv-loop μ-loop
-little-endian-requires c κs = search needs
-
-number-requires : tie.Need-number-requires Inv-loop μ-loop
-number-requires c κs = search needs
-
-mul-u : tie.Need-mul-u Inv-loop μ-loop
-mul-u c = search needs
-
-array-write-u : tie.Need-array-write-u Inv-loop μ-loop
-array-write-u c = search needs
-
-add-k : tie.Need-add-k Inv-loop μ-loop
-add-k c = search needs
-
-loop-less : tie.Need-loop-less Inv-loop μ-loop
-loop-less c = search needs
 
 loop-again : tie.Need-loop-again Inv-loop μ-loop
 unfolding dithered word
@@ -83,19 +41,19 @@ numbers-spec =
     Inv-loop
     μ-loop
     loop-holds
-    mul-i
-    element-copy-out-little-endian
-    add-little-endian
-    element-copy-out-little-endian-2
-    add-little-endian-2
-    element-copy-out-little-endian-3
-    add-little-endian-3
-    element-copy-out-little-endian-4
-    little-endian-requires
-    number-requires
-    mul-u
-    array-write-u
-    add-k
-    loop-less
+    (λ c. search needs)
+    (λ c. search needs)
+    (λ c. search needs)
+    (λ c. search needs)
+    (λ c. search needs)
+    (λ c. search needs)
+    (λ c. search needs)
+    (λ c. search needs)
+    (λ c κs. search needs)
+    (λ c κs. search needs)
+    (λ c. search needs)
+    (λ c. search needs)
+    (λ c. search needs)
+    (λ c. search needs)
     loop-again
     returns)

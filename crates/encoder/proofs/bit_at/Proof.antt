@@ -1,22 +1,10 @@
--- By whether t lies in the record: its bit there, or one of the six zeros behind it. Assumes nothing.
+-- By whether t lies in the record: its bit there, or one of the six zeros behind it.
 use mathlib.Core.Path.{sym}
 use Rattle.encoder.specs.Ccsds131.{sixZeros}
 use Rattle.encoder.specs.Bits.{bit-in, bit-out}
 use borrow.Author.Needs.{needs}
 use Rattle.encoder.proofs.bit_at.Statement.{statement}
 use Rattle.encoder.proofs.bit_at.Tie as tie
-
-shared-slice-read-result : tie.Need-shared-slice-read-result
-shared-slice-read-result c = search needs
-
-sub-result : tie.Need-sub-result
-sub-result c = search needs
-
-cast-result : tie.Need-cast-result
-cast-result c = search needs
-
-shr-result : tie.Need-shr-result
-shr-result c = search needs
 
 returns : tie.Need-returns
 returns c = sym (bit-in (c .before .before .args .bytes .now) sixZeros (c .before .before .args .t) (c .before .if1 .taken))
@@ -27,4 +15,4 @@ returns-2 c = sym (bit-out (c .before .args .bytes .now) (c .before .args .t) (c
 pub bit-at-spec : {M : Type 1} → statement M
 bit-at-spec =
     tie.close
-    (tie.spec shared-slice-read-result sub-result cast-result shr-result returns returns-2)
+    (tie.spec (λ c. search needs) (λ c. search needs) (λ c. search needs) (λ c. search needs) returns returns-2)

@@ -1,5 +1,5 @@
 -- After t turns the state is that after t bits, and the first 2 t outputs are those of t bits; the measure is what is
--- left. Assumes nothing.
+-- left.
 use borrow.Author.Needs.{needs}
 use mathlib.Core.Path.{_≡_, refl, sym, ap, _∙_}
 use Prim.Native.Nat.{ℕ, _+_, _-_, _*_, _≤_, _<_}
@@ -19,54 +19,12 @@ Inv-loop bytes coded₀ steps state₀ t₀ coded state t =
 abbrev μ-loop : tie.MeasureT-loop
 μ-loop bytes coded₀ steps state₀ t₀ coded state t = steps - t
 
-mul-steps : tie.Need-mul-steps Inv-loop μ-loop
-mul-steps c = search needs
-
-add-steps : tie.Need-add-steps Inv-loop μ-loop
-add-steps c = search needs
-
 loop-holds : tie.Need-loop-holds Inv-loop μ-loop
 unfolding run code
 loop-holds c = (omega arith, refl, omega arith, refl, refl)
 
-bit-at-requires : tie.Need-bit-at-requires Inv-loop μ-loop
-bit-at-requires c κs = search needs
-
-cast-register : tie.Need-cast-register Inv-loop μ-loop
-cast-register c = search needs
-
-mul-register : tie.Need-mul-register Inv-loop μ-loop
-mul-register c = search needs
-
-add-register : tie.Need-add-register Inv-loop μ-loop
-add-register c = search needs
-
-parity-of-requires : tie.Need-parity-of-requires Inv-loop μ-loop
-parity-of-requires c κs = search needs
-
-mul-coded : tie.Need-mul-coded Inv-loop μ-loop
-mul-coded c = search needs
-
-slice-write-coded : tie.Need-slice-write-coded Inv-loop μ-loop
-slice-write-coded c = search needs
-
-parity-of-requires-2 : tie.Need-parity-of-requires-2 Inv-loop μ-loop
-parity-of-requires-2 c κs = search needs
-
-mul-coded-2 : tie.Need-mul-coded-2 Inv-loop μ-loop
-mul-coded-2 c = search needs
-
-add-coded : tie.Need-add-coded Inv-loop μ-loop
-add-coded c = search needs
-
 slice-write-coded-2 : tie.Need-slice-write-coded-2 Inv-loop μ-loop
 slice-write-coded-2 c = simp length-set (omega arith)
-
-add-t : tie.Need-add-t Inv-loop μ-loop
-add-t c = search needs
-
-loop-less : tie.Need-loop-less Inv-loop μ-loop
-loop-less c = search needs
 
 loop-again : tie.Need-loop-again Inv-loop μ-loop
 loop-again c =
@@ -79,9 +37,6 @@ loop-again c =
     let B : x < 2 = rw X (bits-at bs (l .t) (bitsOf-bits (a .bytes .now) sixZeros six-bits)) in
     let w = word-step bs (l .coded) (l .t) (l .state) (x * 64 + l .state) (c .before .parity-of .result) (c .parity-of2 .result) (omega arith) (omega arith) (l .inv .3) (ap (λ (y : ℕ). y * 64 + l .state) X) (c .before .parity-of .ensures) (c .parity-of2 .ensures) (l .inv .4) in
     (omega arith, simp length-set (l .inv .1), omega arith, w .0, w .1)
-
-same-length : tie.Need-same-length Inv-loop μ-loop
-same-length c = search needs
 
 returns : tie.Need-returns Inv-loop μ-loop
 unfolding encodeOf
@@ -98,22 +53,22 @@ encode-into-spec =
     (tie.spec
     Inv-loop
     μ-loop
-    mul-steps
-    add-steps
+    (λ c. search needs)
+    (λ c. search needs)
     loop-holds
-    bit-at-requires
-    cast-register
-    mul-register
-    add-register
-    parity-of-requires
-    mul-coded
-    slice-write-coded
-    parity-of-requires-2
-    mul-coded-2
-    add-coded
+    (λ c κs. search needs)
+    (λ c. search needs)
+    (λ c. search needs)
+    (λ c. search needs)
+    (λ c κs. search needs)
+    (λ c. search needs)
+    (λ c. search needs)
+    (λ c κs. search needs)
+    (λ c. search needs)
+    (λ c. search needs)
     slice-write-coded-2
-    add-t
-    loop-less
+    (λ c. search needs)
+    (λ c. search needs)
     loop-again
-    same-length
+    (λ c. search needs)
     returns)

@@ -1,4 +1,4 @@
--- `float::abs_f64` meets its contract, by `specs/Range.antt`. Assumes nothing.
+-- `float::abs_f64` meets its contract, by `specs/Range.antt`.
 use lib.Ieee.{binary64, ofBits}
 use Rattle.float.specs.Base.{yes, no}
 use Rattle.float.specs.Absolute.{absolute-above, absolute-below, absolute-rest}

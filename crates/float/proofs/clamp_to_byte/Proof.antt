@@ -1,4 +1,4 @@
--- It is the definition, arm by arm. Assumes nothing.
+-- It is the definition, arm by arm.
 use mathlib.Core.Path.{_≡_, sym, ap, _∙_}
 use mathlib.Core.Logic.{⊎-elim}
 use mathlib.Core.Bool.{Bool, cond}

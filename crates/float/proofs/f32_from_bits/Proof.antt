@@ -1,4 +1,4 @@
--- A pattern is that of a NaN exactly where, without its sign, it is above that of the infinity (`nanBits-above`). Assumes nothing.
+-- A pattern is that of a NaN exactly where, without its sign, it is above that of the infinity (`nanBits-above`).
 use mathlib.Core.Path.{_≡_, refl, sym, _∙_}
 use mathlib.Core.Bool.{true}
 use borrow.Author.Tests.{lt-ltb, le-ltb}

@@ -1,4 +1,4 @@
--- `float::floor_f32` meets its contract: the floor of an f32 is the same in both formats. Assumes nothing.
+-- `float::floor_f32` meets its contract: the floor of an f32 is the same in both formats.
 use mathlib.Core.Path.{sym, ap, _∙_, subst}
 use mathlib.Core.Bool.{not, _&&_}
 use lib.Dec.{T}
@@ -26,9 +26,6 @@ float-to-float-floor-f64 c =
     let x = c .before .before .args .x in
     and-i (fits binary64 x) (not (isNan x)) (fits-widens x (held (c .before .before))) (equals-itself x (c .before .if1 .left))
 
-floor-f64-requires : tie.Need-floor-f64-requires
-floor-f64-requires c κs = search needs
-
 float-to-float-result : tie.Need-float-to-float-result
 float-to-float-result c =
     let at = c .before .before .before in
@@ -41,4 +38,4 @@ returns-2 : tie.Need-returns-2
 returns-2 c = c .before .floor-f64 .ensures ∙ floor-widens (c .before .before .before .before .args .x) (held (c .before .before .before .before))
 
 pub floor-f32-spec : {M : Type 1} → statement M
-floor-f32-spec = tie.close (tie.spec returns float-to-float-floor-f64 floor-f64-requires float-to-float-result returns-2)
+floor-f32-spec = tie.close (tie.spec returns float-to-float-floor-f64 (λ c κs. search needs) float-to-float-result returns-2)

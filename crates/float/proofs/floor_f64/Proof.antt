@@ -1,4 +1,4 @@
--- Small values by the whole number beside them (Whole), on the value or its negation; the others stay. Assumes nothing.
+-- Small values by the whole number beside them (Whole), on the value or its negation; the others stay.
 use mathlib.Core.Path.{sym, ap, _∙_}
 use lib.Dec.{T}
 use lib.Ieee.{Float, binary64, ofBits, neg, fits}

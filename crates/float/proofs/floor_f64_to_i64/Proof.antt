@@ -1,4 +1,4 @@
--- The cast of the floor, read back from its bits. Assumes nothing.
+-- The cast of the floor, read back from its bits.
 use mathlib.Core.Path.{ap, _∙_}
 use borrow.Author.Needs.{needs}
 use lib.Ieee.{Float, toSigned}
@@ -6,15 +6,9 @@ use Rattle.float.proofs.ReadBack.{read-back}
 use Rattle.float.proofs.floor_f64_to_i64.Statement.{statement}
 use Rattle.float.proofs.floor_f64_to_i64.Tie as tie
 
-floor-f64-requires : tie.Need-floor-f64-requires
-floor-f64-requires c κs = search needs
-
-saturating-f64-to-i64-requires : tie.Need-saturating-f64-to-i64-requires
-saturating-f64-to-i64-requires c κs = search needs
-
 returns : tie.Need-returns
 returns c =
     read-back (c .saturating-f64-to-i64 .result) (c .before .floor-f64 .result) (c .saturating-f64-to-i64 .ensures) ∙ ap (λ (x : Float). toSigned 63 x) (c .before .floor-f64 .ensures)
 
 pub floor-f64-to-i64-spec : {M : Type 1} → statement M
-floor-f64-to-i64-spec = tie.close (tie.spec floor-f64-requires saturating-f64-to-i64-requires returns)
+floor-f64-to-i64-spec = tie.close (tie.spec (λ c κs. search needs) (λ c κs. search needs) returns)

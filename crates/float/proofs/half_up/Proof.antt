@@ -1,4 +1,4 @@
--- The two arms are `half-more` and `half-near` of Whole, at binary32. Assumes nothing.
+-- The two arms are `half-more` and `half-near` of Whole, at binary32.
 use lib.Ieee.{binary32, ofBits}
 use Rattle.float.specs.Base.{yes}
 use Rattle.float.specs.Beside.{half-more, half-near}

@@ -1,4 +1,4 @@
--- It is the definition: the second test where the first holds, and false where it does not. Assumes nothing.
+-- It is the definition: the second test where the first holds, and false where it does not.
 use mathlib.Core.Path.{sym, ap}
 use mathlib.Core.Bool.{Bool, _&&_}
 use lib.Ieee.{ofBits, neg, le}

@@ -1,4 +1,4 @@
--- By the two tests (Choice). Assumes nothing.
+-- By the two tests (Choice).
 use mathlib.Core.Path.{sym}
 use mathlib.Core.Bool.{true, false}
 use Rattle.float.specs.Choice.{least-nan, least-number}

@@ -1,4 +1,4 @@
--- `float::narrow_above_zero` meets its contract. Assumes nothing.
+-- `float::narrow_above_zero` meets its contract.
 use mathlib.Core.Path.{sym}
 use lib.Ieee.{ofBits, nanBits}
 use borrow.Author.Needs.{needs}
@@ -11,9 +11,6 @@ narrow-in-range-requires : tie.Need-narrow-in-range-requires
 unfolding ofBits
 narrow-in-range-requires c κs = (c .before .pre, yes (c .if1 .taken))
 
-returns : tie.Need-returns
-returns c = search needs
-
 float-from-bits-result : tie.Need-float-from-bits-result
 unfolding nanBits
 float-from-bits-result c = tt
@@ -23,4 +20,4 @@ unfolding ofBits
 returns-2 c = sym (narrow-large (c .before .args .x) (c .before .pre) (no (c .if1 .left)))
 
 pub narrow-above-zero-spec : {M : Type 1} → statement M
-narrow-above-zero-spec = tie.close (tie.spec narrow-in-range-requires returns float-from-bits-result returns-2)
+narrow-above-zero-spec = tie.close (tie.spec narrow-in-range-requires (λ c. search needs) float-from-bits-result returns-2)

@@ -1,4 +1,4 @@
--- `float::narrow_f64` meets its contract. Assumes nothing.
+-- `float::narrow_f64` meets its contract.
 use mathlib.Core.Path.{ap, _∙_}
 use lib.Ieee.{neg, ofBits, div}
 use borrow.Author.Needs.{needs}
@@ -12,9 +12,6 @@ use Rattle.float.proofs.narrow_f64.Tie as tie
 narrow-above-zero-requires : tie.Need-narrow-above-zero-requires
 unfolding ofBits
 narrow-above-zero-requires c κs = yes (c .if1 .taken)
-
-returns : tie.Need-returns
-returns c = search needs
 
 narrow-above-zero-requires-2 : tie.Need-narrow-above-zero-requires-2
 unfolding ofBits
@@ -46,7 +43,7 @@ narrow-f64-spec =
     tie.close
     (tie.spec
     narrow-above-zero-requires
-    returns
+    (λ c. search needs)
     narrow-above-zero-requires-2
     returns-2
     float-to-float-result

@@ -1,4 +1,4 @@
--- `float::narrow_in_range` meets its contract, by `narrowed` of `specs/Narrow.antt`. Assumes nothing.
+-- `float::narrow_in_range` meets its contract, by `narrowed` of `specs/Narrow.antt`.
 use mathlib.Core.Path.{_≡_, refl, sym, ap, _∙_, subst}
 use mathlib.Core.Bool.{Bool, true, false, not, _&&_}
 use Prim.Native.Nat.{ℕ, _+_, _*_, _%_, _^_, _≤_, _<_}
@@ -36,9 +36,6 @@ test x e t h p = ap (λ (b : ℕ). lt (y-of x b) (two-to 128)) (sym (whole-shift
 
 float-to-bits-at-least : tie.Need-float-to-bits-at-least
 float-to-bits-at-least c = positive-no-nan (c .args .x) (c .pre .0)
-
-at-least-requires : tie.Need-at-least-requires
-at-least-requires c κs = search needs
 
 add-m : tie.Need-add-m
 add-m c = let h = law c .e-small in record { fits = omega arith }
@@ -79,7 +76,7 @@ narrow-in-range-spec =
     tie.close
     (tie.spec
     float-to-bits-at-least
-    at-least-requires
+    (λ c κs. search needs)
     add-m
     float-from-bits-m
     float-to-float-result

@@ -1,4 +1,4 @@
--- Small values by `half_up`, on the value or its negation; the others stay. Assumes nothing.
+-- Small values by `half_up`, on the value or its negation; the others stay.
 use mathlib.Core.Path.{sym, ap, _∙_}
 use borrow.Author.Needs.{needs}
 use lib.Dec.{T}
@@ -16,9 +16,6 @@ held c = yes (c .good .0 .1)
 half-up-requires : tie.Need-half-up-requires
 unfolding ofBits
 half-up-requires c κs = under-above 23 (c .before .before .args .x) (yes (c .before .if1 .taken)) (yes (c .if2 .taken))
-
-returns : tie.Need-returns
-returns c = search needs
 
 returns-2 : tie.Need-returns-2
 unfolding ofBits
@@ -50,4 +47,4 @@ returns-5 c =
     sym (roundAway-still binary32 x (held (c .before .before)) (still-zero x (no (c .before .if1 .left)) (no (c .if3 .left))))
 
 pub round-f32-spec : {M : Type 1} → statement M
-round-f32-spec = tie.close (tie.spec half-up-requires returns returns-2 half-up-requires-2 returns-3 returns-4 returns-5)
+round-f32-spec = tie.close (tie.spec half-up-requires (λ c. search needs) returns-2 half-up-requires-2 returns-3 returns-4 returns-5)

@@ -1,4 +1,4 @@
--- Clamped, a value is rounded to the same byte (`clamped-same`), and that byte is a whole number that the cast takes (`clamped-byte`). Assumes nothing.
+-- Clamped, a value is rounded to the same byte (`clamped-same`), and that byte is a whole number that the cast takes (`clamped-byte`).
 use mathlib.Core.Path.{_≡_, sym, ap, _∙_, subst}
 use borrow.Author.Needs.{needs}
 use lib.Dec.{T}
@@ -9,9 +9,6 @@ use Rattle.float.specs.Beside.{Under}
 use Rattle.float.specs.Byte.{clamped, clamped-under, clamped-byte, clamped-same}
 use Rattle.float.proofs.round_to_u8.Statement.{statement}
 use Rattle.float.proofs.round_to_u8.Tie as tie
-
-clamp-to-byte-requires : tie.Need-clamp-to-byte-requires
-clamp-to-byte-requires c κs = search needs
 
 half-up-requires : tie.Need-half-up-requires
 half-up-requires c κs = subst (λ (y : Float). Under 23 y) (sym (c .clamp-to-byte .ensures)) (clamped-under (c .before .args .x) (yes (c .before .good .0 .1)))
@@ -29,4 +26,4 @@ returns : tie.Need-returns
 returns c = ap (λ (y : Float). toUnsigned 8 y) (byte-of c) ∙ clamped-same (c .before .before .before .args .x) (yes (c .before .before .before .good .0 .1))
 
 pub round-to-u8-spec : {M : Type 1} → statement M
-round-to-u8-spec = tie.close (tie.spec clamp-to-byte-requires half-up-requires float-to-int-result returns)
+round-to-u8-spec = tie.close (tie.spec (λ c κs. search needs) half-up-requires float-to-int-result returns)

@@ -1,4 +1,4 @@
--- `float::saturating_f64_to_i64` meets its contract: beyond each end and at a NaN by `specs/Saturate.antt`, in range by what std's function ensures. Assumes nothing.
+-- `float::saturating_f64_to_i64` meets its contract: beyond each end and at a NaN by `specs/Saturate.antt`, in range by what std's function ensures.
 use mathlib.Core.Path.{sym}
 use lib.Ieee.{ofBits, neg}
 use borrow.Author.Needs.{needs}
@@ -10,9 +10,6 @@ use Rattle.float.proofs.saturating_f64_to_i64.Tie as tie
 truncating-f64-to-i64-requires : tie.Need-truncating-f64-to-i64-requires
 unfolding ofBits neg
 truncating-f64-to-i64-requires c κs = (yes (c .if2 .taken), yes (c .before .if1 .taken))
-
-returns : tie.Need-returns
-returns c = search needs
 
 returns-2 : tie.Need-returns-2
 unfolding ofBits neg
@@ -27,4 +24,4 @@ unfolding ofBits
 returns-4 c = sym (neither 63 (c .before .before .args .x) (no (c .before .if1 .left)) (no (c .if3 .left)))
 
 pub saturating-f64-to-i64-spec : {M : Type 1} → statement M
-saturating-f64-to-i64-spec = tie.close (tie.spec truncating-f64-to-i64-requires returns returns-2 returns-3 returns-4)
+saturating-f64-to-i64-spec = tie.close (tie.spec truncating-f64-to-i64-requires (λ c. search needs) returns-2 returns-3 returns-4)

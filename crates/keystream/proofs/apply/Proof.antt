@@ -1,5 +1,5 @@
 -- The answer tells whether as many bytes are left (`next-granted`, `end-refused`): granted, `encrypt` did what the
--- promise says; refused, nothing was touched. Assumes nothing.
+-- promise says; refused, nothing was touched.
 use borrow.Author.Needs.{needs}
 use mathlib.Core.Path.{sym, _∙_}
 use Prim.Native.Nat.{_≤_}
@@ -10,23 +10,11 @@ use Rattle.keystream.specs.Laws.{next-granted, end-refused, after-next, 
 use Rattle.keystream.proofs.apply.Statement.{statement}
 use Rattle.keystream.proofs.apply.Tie as tie
 
-answer-to-requires : tie.Need-answer-to-requires
-answer-to-requires c κs = search needs
-
-enum-told : tie.Need-enum-told
-enum-told c = search needs
-
 enough : (c : tie.After-enum-told) → let start = c .before .before .before .before .args in length (now (start .bytes)) ≤ leftAt (start .from)
 enough c = next-granted _ _ _ (sym (c .before .before .answer-to .ensures) ∙ c .enum-told .given .1)
 
 encrypt-requires : tie.Need-encrypt-requires
 encrypt-requires c κs = enough (c .before)
-
-enum-told-2 : tie.Need-enum-told-2
-enum-told-2 c = search needs
-
-same-length : tie.Need-same-length
-same-length c = search needs
 
 returns : tie.Need-returns
 returns c =
@@ -42,10 +30,10 @@ pub apply-spec : {M : Type 1} → statement M
 apply-spec =
     tie.close
     (tie.spec
-    answer-to-requires
-    enum-told
+    (λ c κs. search needs)
+    (λ c. search needs)
     encrypt-requires
-    enum-told-2
-    same-length
+    (λ c. search needs)
+    (λ c. search needs)
     returns
     returns-2)

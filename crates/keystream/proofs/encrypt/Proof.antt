@@ -1,5 +1,5 @@
 -- The bytes done hold the result, the others what they held (`filled`). A turn does what one block has (`turn`), at least
--- one byte, so the measure, what is left, falls. Assumes nothing.
+-- one byte, so the measure, what is left, falls.
 use borrow.Author.Needs.{needs}
 use mathlib.Core.Path.{_≡_, refl, _∙_}
 use mathlib.Core.List.{List}
@@ -46,41 +46,8 @@ Inv-loop key nonce from bytes₀ first done₀ bytes done = (done ≤ length byt
 abbrev μ-loop : tie.MeasureT-loop
 μ-loop key nonce from bytes₀ first done₀ bytes done = length bytes₀ - done
 
-first-state-requires : tie.Need-first-state-requires Inv-loop μ-loop
-first-state-requires c κs = search needs
-
 loop-holds : tie.Need-loop-holds Inv-loop μ-loop
 loop-holds c = (search needs, refl, filled-none _ _)
-
-add-p : tie.Need-add-p Inv-loop μ-loop
-add-p c = search needs
-
-cast-block-from : tie.Need-cast-block-from Inv-loop μ-loop
-cast-block-from c = search needs
-
-block-from-requires : tie.Need-block-from-requires Inv-loop μ-loop
-block-from-requires c κs = search needs
-
-sub-in-block : tie.Need-sub-in-block Inv-loop μ-loop
-sub-in-block c = search needs
-
-in-block-requires : tie.Need-in-block-requires Inv-loop μ-loop
-in-block-requires c κs = search needs
-
-add-end : tie.Need-add-end Inv-loop μ-loop
-add-end c = search needs
-
-sub-xor-bytes : tie.Need-sub-xor-bytes Inv-loop μ-loop
-sub-xor-bytes c = search needs
-
-part-xor-bytes-start : tie.Need-part-xor-bytes-start Inv-loop μ-loop
-part-xor-bytes-start c = search needs
-
-part-xor-bytes-end : tie.Need-part-xor-bytes-end Inv-loop μ-loop
-part-xor-bytes-end c = search needs
-
-xor-bytes-requires : tie.Need-xor-bytes-requires Inv-loop μ-loop
-xor-bytes-requires c κs = search needs
 
 loop-less : tie.Need-loop-less Inv-loop μ-loop
 loop-less c =
@@ -97,9 +64,6 @@ loop-again c =
     let step = turn key nonce (now (start .bytes)) (start .from) (top .loop .done) (at .in-block .result) (omega (arith, at)) (omega (arith, at)) in
     (search needs, search needs, rw (c .before .before .xor-bytes .ensures, at .before .block-from .ensures, top .before .first-state .ensures, block-counted key _ nonce, top .loop .inv .2) step)
 
-same-length : tie.Need-same-length Inv-loop μ-loop
-same-length c = search needs
-
 returns : tie.Need-returns Inv-loop μ-loop
 unfolding encrypted xored
 returns c =
@@ -112,19 +76,19 @@ encrypt-spec =
     (tie.spec
     Inv-loop
     μ-loop
-    first-state-requires
+    (λ c κs. search needs)
     loop-holds
-    add-p
-    cast-block-from
-    block-from-requires
-    sub-in-block
-    in-block-requires
-    add-end
-    sub-xor-bytes
-    part-xor-bytes-start
-    part-xor-bytes-end
-    xor-bytes-requires
+    (λ c. search needs)
+    (λ c. search needs)
+    (λ c κs. search needs)
+    (λ c. search needs)
+    (λ c κs. search needs)
+    (λ c. search needs)
+    (λ c. search needs)
+    (λ c. search needs)
+    (λ c. search needs)
+    (λ c κs. search needs)
     loop-less
     loop-again
-    same-length
+    (λ c. search needs)
     returns)

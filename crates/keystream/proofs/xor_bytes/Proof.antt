@@ -1,4 +1,4 @@
--- The bytes passed are put through, the others as they were (`filled`); the measure is what is left. Assumes nothing.
+-- The bytes passed are put through, the others as they were (`filled`); the measure is what is left.
 use borrow.Author.Needs.{needs}
 use mathlib.Core.Path.{_≡_, refl, _∙_}
 use Prim.Native.Nat.{ℕ, _+_, _-_, _≤_, _<_}
@@ -21,24 +21,6 @@ abbrev μ-loop : tie.MeasureT-loop
 loop-holds : tie.Need-loop-holds Inv-loop μ-loop
 loop-holds c = (search needs, search needs, refl, filled-none _ _)
 
-slice-read-bytes : tie.Need-slice-read-bytes Inv-loop μ-loop
-slice-read-bytes c = search needs
-
-add-bytes : tie.Need-add-bytes Inv-loop μ-loop
-add-bytes c = search needs
-
-element-copy-out-bytes : tie.Need-element-copy-out-bytes Inv-loop μ-loop
-element-copy-out-bytes c = search needs
-
-slice-write-bytes : tie.Need-slice-write-bytes Inv-loop μ-loop
-slice-write-bytes c = search needs
-
-add-i : tie.Need-add-i Inv-loop μ-loop
-add-i c = search needs
-
-loop-less : tie.Need-loop-less Inv-loop μ-loop
-loop-less c = search needs
-
 loop-again : tie.Need-loop-again Inv-loop μ-loop
 loop-again c =
     let top = c .before .before .before in
@@ -46,9 +28,6 @@ loop-again c =
     let put : ℕ → ℕ → ℕ = λ k b. bitXor b (getD (now (start .stream)) (start .at + k) 0) in
     let more : top .loop .i < length (now (start .bytes)) = omega arith in
     (search needs, search needs, search needs, filled-step put (top .loop .i) (now (start .bytes)) (top .loop .bytes) 0 more (top .loop .inv .3))
-
-same-length : tie.Need-same-length Inv-loop μ-loop
-same-length c = search needs
 
 returns : tie.Need-returns Inv-loop μ-loop
 unfolding xored
@@ -63,12 +42,12 @@ xor-bytes-spec =
     Inv-loop
     μ-loop
     loop-holds
-    slice-read-bytes
-    add-bytes
-    element-copy-out-bytes
-    slice-write-bytes
-    add-i
-    loop-less
+    (λ c. search needs)
+    (λ c. search needs)
+    (λ c. search needs)
+    (λ c. search needs)
+    (λ c. search needs)
+    (λ c. search needs)
     loop-again
-    same-length
+    (λ c. search needs)
     returns)

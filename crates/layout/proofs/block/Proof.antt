@@ -1,4 +1,4 @@
--- The table is the layout, whose entries are block numbers. Assumes nothing.
+-- The table is the layout, whose entries are block numbers.
 use mathlib.Core.Path.{_≡_, sym, ap, _∙_, subst}
 use mathlib.Core.List.{List}
 use Prim.Native.Nat.{ℕ, _<_}
@@ -9,15 +9,6 @@ use borrow.Author.Needs.{needs}
 use Rattle.layout.proofs.block.Statement.{statement}
 use Rattle.layout.proofs.block.Tie as tie
 
-mul-wide : tie.Need-mul-wide
-mul-wide c = search needs
-
-element-copy-out-wide : tie.Need-element-copy-out-wide
-element-copy-out-wide c = search needs
-
-wide-requires : tie.Need-wide-requires
-wide-requires c κs = search needs
-
 returns : tie.Need-returns
 returns c =
     let j = c .before .before .args .j in
@@ -25,4 +16,4 @@ returns c =
     (e, subst (λ (b : ℕ). b < 1024) (sym e) (layout-undo .lo j (c .before .before .pre .1)))
 
 pub block-spec : {M : Type 1} → statement M
-block-spec = tie.close (tie.spec mul-wide element-copy-out-wide wide-requires returns)
+block-spec = tie.close (tie.spec (λ c. search needs) (λ c. search needs) (λ c κs. search needs) returns)

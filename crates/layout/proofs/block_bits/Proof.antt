@@ -1,4 +1,4 @@
--- The constant is the layout, by its entries. Assumes nothing.
+-- The constant is the layout, by its entries.
 use mathlib.Core.Path.{refl}
 use borrow.Author.Needs.{needs}
 use Rattle.layout.specs.Layout.{layout}
@@ -9,8 +9,5 @@ lay-requires : tie.Need-lay-requires
 unfolding layout
 lay-requires c κs = refl
 
-returns : tie.Need-returns
-returns c = search needs
-
 pub block-bits-spec : {M : Type 1} → statement M
-block-bits-spec = tie.close (tie.spec lay-requires returns)
+block-bits-spec = tie.close (tie.spec lay-requires (λ c. search needs))

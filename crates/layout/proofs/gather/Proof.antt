@@ -1,4 +1,4 @@
--- The constant is the layout, by its entries. Assumes nothing.
+-- The constant is the layout, by its entries.
 use mathlib.Core.Path.{refl}
 use borrow.Author.Needs.{needs}
 use Rattle.layout.specs.Layout.{layout}
@@ -9,8 +9,5 @@ sum-places-requires : tie.Need-sum-places-requires
 unfolding layout
 sum-places-requires c κs = refl
 
-returns : tie.Need-returns
-returns c = search needs
-
 pub gather-spec : {M : Type 1} → statement M
-gather-spec = tie.close (tie.spec sum-places-requires returns)
+gather-spec = tie.close (tie.spec sum-places-requires (λ c. search needs))

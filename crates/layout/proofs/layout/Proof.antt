@@ -1,4 +1,4 @@
--- The constant is the layout, by its entries. Assumes nothing.
+-- The constant is the layout, by its entries.
 use mathlib.Core.Path.{refl}
 use Rattle.layout.specs.Layout.{layout}
 use Rattle.layout.proofs.layout.Statement.{statement}

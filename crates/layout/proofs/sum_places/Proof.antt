@@ -1,4 +1,4 @@
--- The places passed are in the sums (`gather`); the measure is what is left. Assumes nothing.
+-- The places passed are in the sums (`gather`); the measure is what is left.
 use mathlib.Core.Path.{_≡_, refl}
 use Prim.Native.Nat.{_-_, _≤_, _<_}
 use native.Mathlib.Omega.{arith}
@@ -21,33 +21,6 @@ loop-holds : tie.Need-loop-holds Inv-loop μ-loop
 unfolding gather ofBits
 loop-holds c = (omega arith, refl, refl)
 
-block-requires : tie.Need-block-requires Inv-loop μ-loop
-block-requires c κs = search needs
-
-mul-soft : tie.Need-mul-soft Inv-loop μ-loop
-mul-soft c = search needs
-
-array-read-soft : tie.Need-array-read-soft Inv-loop μ-loop
-array-read-soft c = search needs
-
-mul-soft-2 : tie.Need-mul-soft-2 Inv-loop μ-loop
-mul-soft-2 c = search needs
-
-element-copy-out-soft : tie.Need-element-copy-out-soft Inv-loop μ-loop
-element-copy-out-soft c = search needs
-
-mul-soft-3 : tie.Need-mul-soft-3 Inv-loop μ-loop
-mul-soft-3 c = search needs
-
-array-write-soft : tie.Need-array-write-soft Inv-loop μ-loop
-array-write-soft c = search needs
-
-add-j : tie.Need-add-j Inv-loop μ-loop
-add-j c = search needs
-
-loop-less : tie.Need-loop-less Inv-loop μ-loop
-loop-less c = search needs
-
 loop-again : tie.Need-loop-again Inv-loop μ-loop
 loop-again c =
     let l = c .before .before .before .loop in
@@ -69,14 +42,14 @@ sum-places-spec =
     Inv-loop
     μ-loop
     loop-holds
-    block-requires
-    mul-soft
-    array-read-soft
-    mul-soft-2
-    element-copy-out-soft
-    mul-soft-3
-    array-write-soft
-    add-j
-    loop-less
+    (λ c κs. search needs)
+    (λ c. search needs)
+    (λ c. search needs)
+    (λ c. search needs)
+    (λ c. search needs)
+    (λ c. search needs)
+    (λ c. search needs)
+    (λ c. search needs)
+    (λ c. search needs)
     loop-again
     returns)

@@ -1,4 +1,4 @@
--- The place stays within the samples, which keep their length; a remainder is below what divides. Assumes nothing.
+-- The place stays within the samples, which keep their length; a remainder is below what divides.
 use mathlib.Core.Path.{_≡_}
 use Prim.Native.Nat.{_-_, _≤_}
 use native.Mathlib.Nat.{mod-lt}
@@ -13,32 +13,8 @@ Inv-loop raw samples₀ p₀ p-end samples p = (p ≤ p-end) × (p-end ≡ lengt
 abbrev μ-loop : tie.MeasureT-loop
 μ-loop raw samples₀ p₀ p-end samples p = p-end - p
 
-loop-holds : tie.Need-loop-holds Inv-loop μ-loop
-loop-holds c = search needs
-
-rem-samples : tie.Need-rem-samples Inv-loop μ-loop
-rem-samples c = search needs
-
 shared-slice-read-samples : tie.Need-shared-slice-read-samples Inv-loop μ-loop
 shared-slice-read-samples c = mod-lt _ (c .before .before .before .pre)
-
-slice-write-samples : tie.Need-slice-write-samples Inv-loop μ-loop
-slice-write-samples c = search needs
-
-add-p : tie.Need-add-p Inv-loop μ-loop
-add-p c = search needs
-
-loop-less : tie.Need-loop-less Inv-loop μ-loop
-loop-less c = search needs
-
-loop-again : tie.Need-loop-again Inv-loop μ-loop
-loop-again c = search needs
-
-same-length : tie.Need-same-length Inv-loop μ-loop
-same-length c = search needs
-
-returns : tie.Need-returns Inv-loop μ-loop
-returns c = search needs
 
 pub fill-samples-spec : {M : Type 1} → statement M
 fill-samples-spec =
@@ -46,12 +22,12 @@ fill-samples-spec =
     (tie.spec
     Inv-loop
     μ-loop
-    loop-holds
-    rem-samples
+    (λ c. search needs)
+    (λ c. search needs)
     shared-slice-read-samples
-    slice-write-samples
-    add-p
-    loop-less
-    loop-again
-    same-length
-    returns)
+    (λ c. search needs)
+    (λ c. search needs)
+    (λ c. search needs)
+    (λ c. search needs)
+    (λ c. search needs)
+    (λ c. search needs))

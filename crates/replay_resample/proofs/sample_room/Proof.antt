@@ -1,4 +1,4 @@
--- An array of one value is as long as it says. Assumes nothing.
+-- An array of one value is as long as it says.
 use mathlib.Core.Path.{sym}
 use lib.ListN.{length-replicate}
 use Prim.Native.Nat.{ℕ}

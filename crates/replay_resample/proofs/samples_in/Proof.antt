@@ -1,4 +1,4 @@
--- A row has few samples, and so has a picture: the products fit. Assumes nothing.
+-- A row has few samples, and so has a picture: the products fit.
 use borrow.Author.Needs.{needs}
 use Prim.Native.Nat.{_*_, _≤_}
 use native.Mathlib.Nat.{mul-le-mul-right}

@@ -1,32 +1,8 @@
--- Each field lies in the text, behind the one before. Assumes nothing.
+-- Each field lies in the text, behind the one before.
 use native.Mathlib.Omega.{arith}
 use borrow.Author.Needs.{needs}
 use Rattle.replay_resilient.proofs.case_at.Statement.{statement}
 use Rattle.replay_resilient.proofs.case_at.Tie as tie
-
-next-requires : tie.Need-next-requires
-next-requires c κs = search needs
-
-next-requires-2 : tie.Need-next-requires-2
-next-requires-2 c κs = search needs
-
-next-requires-3 : tie.Need-next-requires-3
-next-requires-3 c κs = search needs
-
-next-requires-4 : tie.Need-next-requires-4
-next-requires-4 c κs = search needs
-
-told-at-requires : tie.Need-told-at-requires
-told-at-requires c κs = search needs
-
-next-requires-5 : tie.Need-next-requires-5
-next-requires-5 c κs = search needs
-
-next-requires-6 : tie.Need-next-requires-6
-next-requires-6 c κs = search needs
-
-told-at-requires-2 : tie.Need-told-at-requires-2
-told-at-requires-2 c κs = search needs
 
 returns : tie.Need-returns
 returns c =
@@ -46,12 +22,12 @@ pub case-at-spec : {M : Type 1} → statement M
 case-at-spec =
     tie.close
     (tie.spec
-    next-requires
-    next-requires-2
-    next-requires-3
-    next-requires-4
-    told-at-requires
-    next-requires-5
-    next-requires-6
-    told-at-requires-2
+    (λ c κs. search needs)
+    (λ c κs. search needs)
+    (λ c κs. search needs)
+    (λ c κs. search needs)
+    (λ c κs. search needs)
+    (λ c κs. search needs)
+    (λ c κs. search needs)
+    (λ c κs. search needs)
     returns)

@@ -1,17 +1,11 @@
--- A value that equals itself is no NaN, so it has one pattern. Assumes nothing.
+-- A value that equals itself is no NaN, so it has one pattern.
 use borrow.Author.Needs.{needs}
 use Rattle.float.specs.Choice.{equals-itself}
 use Rattle.replay_resilient.proofs.has_bits.Statement.{statement}
 use Rattle.replay_resilient.proofs.has_bits.Tie as tie
 
-returns : tie.Need-returns
-returns c = search needs
-
 float-to-bits-result : tie.Need-float-to-bits-result
 float-to-bits-result c = equals-itself (c .before .args .x) (c .if1 .left)
 
-returns-2 : tie.Need-returns-2
-returns-2 c = search needs
-
 pub has-bits-spec : {M : Type 1} → statement M
-has-bits-spec = tie.close (tie.spec returns float-to-bits-result returns-2)
+has-bits-spec = tie.close (tie.spec (λ c. search needs) float-to-bits-result (λ c. search needs))

@@ -1,4 +1,4 @@
--- The place stays within the work area, which keeps its length; the measure is what is left of it. Assumes nothing.
+-- The place stays within the work area, which keeps its length; the measure is what is left of it.
 use mathlib.Core.Path.{_≡_}
 use Prim.Native.Nat.{_-_, _≤_}
 use lib.ListN.{length}
@@ -12,49 +12,19 @@ Inv-loop work₀ i₀ i-end work i = (i ≤ i-end) × (i-end ≡ length work₀)
 abbrev μ-loop : tie.MeasureT-loop
 μ-loop work₀ i₀ i-end work i = i-end - i
 
-loop-holds : tie.Need-loop-holds Inv-loop μ-loop
-loop-holds c = search needs
-
-lent-bits-requires : tie.Need-lent-bits-requires Inv-loop μ-loop
-lent-bits-requires c κs = search needs
-
-f32-from-bits-requires : tie.Need-f32-from-bits-requires Inv-loop μ-loop
-f32-from-bits-requires c κs = search needs
-
-mul-work : tie.Need-mul-work Inv-loop μ-loop
-mul-work c = search needs
-
-slice-write-work : tie.Need-slice-write-work Inv-loop μ-loop
-slice-write-work c = search needs
-
-add-i : tie.Need-add-i Inv-loop μ-loop
-add-i c = search needs
-
-loop-less : tie.Need-loop-less Inv-loop μ-loop
-loop-less c = search needs
-
-loop-again : tie.Need-loop-again Inv-loop μ-loop
-loop-again c = search needs
-
-same-length : tie.Need-same-length Inv-loop μ-loop
-same-length c = search needs
-
-returns : tie.Need-returns Inv-loop μ-loop
-returns c = search needs
-
 pub lend-spec : {M : Type 1} → statement M
 lend-spec =
     tie.close
     (tie.spec
     Inv-loop
     μ-loop
-    loop-holds
-    lent-bits-requires
-    f32-from-bits-requires
-    mul-work
-    slice-write-work
-    add-i
-    loop-less
-    loop-again
-    same-length
-    returns)
+    (λ c. search needs)
+    (λ c κs. search needs)
+    (λ c κs. search needs)
+    (λ c. search needs)
+    (λ c. search needs)
+    (λ c. search needs)
+    (λ c. search needs)
+    (λ c. search needs)
+    (λ c. search needs)
+    (λ c. search needs))

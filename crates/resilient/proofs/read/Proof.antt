@@ -1,4 +1,4 @@
--- The answer decides what is left: all as it was lent, or the votes read. Assumes nothing.
+-- The answer decides what is left: all as it was lent, or the votes read.
 use mathlib.Core.Path.{_≡_, sym, _∙_, ap}
 use mathlib.Core.List.{List}
 use lib.Dec.{lit≤}
@@ -6,26 +6,14 @@ use lib.ListN.{length}
 use lib.Ieee.{Float}
 use denote.Ref.{now}
 use Rattle.record.specs.declared.Answer.the-variants.{Done}
-use Rattle.picture.specs.Admission.{readAdmission}
-use Rattle.picture.specs.Admitted.{read-admitted}
-use Rattle.tally.specs.Tally.{textOf}
+use Rattle.admission.specs.Admission.{readAdmission}
+use Rattle.admission.specs.Admitted.{read-admitted}
+use Rattle.extract.specs.Extract.{textOf}
 use Rattle.resilient.specs.Sized.{sized, plane-room}
 use Rattle.resilient.specs.Left.{read-done, read-refused}
 use borrow.Author.Needs.{needs}
 use Rattle.resilient.proofs.read.Statement.{statement}
 use Rattle.resilient.proofs.read.Tie as tie
-
-may-read-requires : tie.Need-may-read-requires
-may-read-requires c κs = search needs
-
-enum-known-answer : tie.Need-enum-known-answer
-enum-known-answer c = search needs
-
-not-read-requires : tie.Need-not-read-requires
-not-read-requires c κs = search needs
-
-enum-told : tie.Need-enum-told
-enum-told c = search needs
 
 -- the answer is the definition's
 answered : (c : tie.After-may-read) → let start = c .before .before .before in c .may-read .result ≡ readAdmission (start .args .picture) (length (now (start .args .samples))) (length (now (start .args .work)))
@@ -41,17 +29,11 @@ votes-requires c κs =
     let may = read-admitted (start .picture) (length (now (start .samples))) (length (now (start .work))) (done told) in
     (sized 1 (start .picture) (now (start .samples)) (length (now (start .work))) (may .2) (may .0) (may .1), plane-room 1 (start .picture) (now (start .samples)) (length (now (start .work))) (may .2) (lit≤ tt))
 
-text-of-requires : tie.Need-text-of-requires
-text-of-requires c κs = search needs
-
 returns : tie.Need-returns
 returns c =
     let start = c .before .before .before .before .before .before .before .args in
     let left = read-refused (start .key) (start .picture) (now (start .samples)) (now (start .work)) _ (sym (answered (c .before .before .before .before)) ∙ c .before .before .answer .given .1) in
     (c .not-read .ensures ∙ sym (left .0), sym (left .1))
-
-same-length : tie.Need-same-length
-same-length c = search needs
 
 returns-2 : tie.Need-returns-2
 returns-2 c =
@@ -65,12 +47,12 @@ pub read-spec : {M : Type 1} → statement M
 read-spec =
     tie.close
     (tie.spec
-    may-read-requires
-    enum-known-answer
-    not-read-requires
-    enum-told
+    (λ c κs. search needs)
+    (λ c. search needs)
+    (λ c κs. search needs)
+    (λ c. search needs)
     votes-requires
-    text-of-requires
+    (λ c κs. search needs)
     returns
-    same-length
+    (λ c. search needs)
     returns-2)

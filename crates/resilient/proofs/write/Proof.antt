@@ -1,4 +1,4 @@
--- The answer decides what is left: all as it was lent, or what `mark` makes of it. Assumes nothing.
+-- The answer decides what is left: all as it was lent, or what `mark` makes of it.
 use mathlib.Core.Path.{_≡_, refl, sym, _∙_, ap}
 use mathlib.Core.List.{List}
 use Prim.Native.Nat.{ℕ}
@@ -7,11 +7,11 @@ use lib.Dec.{lit≤}
 use lib.ListN.{length}
 use denote.Ref.{now}
 use Rattle.record.specs.declared.Answer.the-variants.{Done}
-use Rattle.build.specs.declared.Built.{Built}
-use Rattle.build.specs.Theorems.{built-done}
+use Rattle.record_build.specs.declared.Built.{Built}
+use Rattle.record_build.specs.Theorems.{built-done}
 use Rattle.layout.specs.Places.{blockBits}
 use Rattle.encoder.specs.Ccsds131.{encodeOf}
-use Rattle.picture.specs.Admitted.{first-done, write-admitted}
+use Rattle.admission.specs.Admitted.{first-done, write-admitted}
 use Rattle.carrier.specs.Carrier.{markedSamples}
 use Rattle.resilient.specs.Resilient.{bitsOf, writeAnswer, writtenOf}
 use Rattle.resilient.specs.Sized.{sized, plane-room}
@@ -19,21 +19,6 @@ use Rattle.resilient.specs.Left.{written-done, written-refused}
 use borrow.Author.Needs.{needs}
 use Rattle.resilient.proofs.write.Statement.{statement}
 use Rattle.resilient.proofs.write.Tie as tie
-
-build-record-requires : tie.Need-build-record-requires
-build-record-requires c κs = search needs
-
-may-write-requires : tie.Need-may-write-requires
-may-write-requires c κs = search needs
-
-first-requires : tie.Need-first-requires
-first-requires c κs = search needs
-
-enum-told : tie.Need-enum-told
-enum-told c = search needs
-
-enum-told-2 : tie.Need-enum-told-2
-enum-told-2 c = search needs
 
 -- the answer is the definition's
 answered : (c : tie.After-first) → let start = c .before .before .before .before .before .before in c .first .result ≡ writeAnswer (now (start .args .text)) (start .args .lock) (start .args .picture) (length (now (start .args .samples))) (length (now (start .args .work)))
@@ -52,12 +37,6 @@ returns c =
 done : (c : tie.After-enum-told) → let start = c .before .before .before .before .before .before .before .before .args in writeAnswer (now (start .text)) (start .lock) (start .picture) (length (now (start .samples))) (length (now (start .work))) ≡ Done
 done c = sym (answered (c .before .before)) ∙ c .enum-told .given .1
 
-encode-requires : tie.Need-encode-requires
-encode-requires c κs = search needs
-
-block-bits-requires : tie.Need-block-bits-requires
-block-bits-requires c κs = search needs
-
 mark-requires : tie.Need-mark-requires
 unfolding writeAnswer
 mark-requires c κs =
@@ -65,12 +44,6 @@ mark-requires c κs =
     let start = told .before .before .before .before .before .before .before .before .args in
     let may = write-admitted (start .picture) (length (now (start .samples))) (length (now (start .work))) (first-done _ _ (done told) .1) in
     (sized 2 (start .picture) (now (start .samples)) (length (now (start .work))) (may .2) (omega (arith, may .0)) (omega (arith, may .1)), may .0, may .1, plane-room 2 (start .picture) (now (start .samples)) (length (now (start .work))) (may .2) (lit≤ tt))
-
-same-length : tie.Need-same-length
-same-length c = search needs
-
-same-length-2 : tie.Need-same-length-2
-same-length-2 c = search needs
 
 returns-2 : tie.Need-returns-2
 unfolding bitsOf writtenOf writeAnswer
@@ -91,15 +64,15 @@ pub write-spec : {M : Type 1} → statement M
 write-spec =
     tie.close
     (tie.spec
-    build-record-requires
-    may-write-requires
-    first-requires
-    enum-told
-    enum-told-2
+    (λ c κs. search needs)
+    (λ c κs. search needs)
+    (λ c κs. search needs)
+    (λ c. search needs)
+    (λ c. search needs)
     returns
-    encode-requires
-    block-bits-requires
+    (λ c κs. search needs)
+    (λ c κs. search needs)
     mark-requires
-    same-length
-    same-length-2
+    (λ c. search needs)
+    (λ c. search needs)
     returns-2)

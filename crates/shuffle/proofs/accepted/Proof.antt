@@ -1,4 +1,4 @@
--- The law on the limit, at what 0 - range wraps to. Assumes nothing.
+-- The law on the limit, at what 0 - range wraps to.
 use borrow.Author.Needs.{needs}
 use mathlib.Core.Path.{sym, ap, _∙_}
 use Prim.Native.Nat.{ℕ, _<_}
@@ -13,12 +13,6 @@ use Rattle.shuffle.proofs.accepted.Tie as tie
 returns : tie.Need-returns
 returns c = sym (ap (λ (r : ℕ). ltb (c .before .args .value) (limit r)) (c .if1 .taken) ∙ limit-none (c .before .args .value))
 
-wrapping-sub-u64-requires : tie.Need-wrapping-sub-u64-requires
-wrapping-sub-u64-requires c κs = search needs
-
-rem-result : tie.Need-rem-result
-rem-result c = search needs
-
 sub-result : tie.Need-sub-result
 sub-result c = omega (arith, mod-lt (c .wrapping-sub-u64 .result) (pos-of-ne-zero (c .before .if1 .left)))
 
@@ -31,4 +25,4 @@ returns-2 c =
 
 pub accepted-spec : {M : Type 1} → statement M
 accepted-spec =
-    tie.close (tie.spec returns wrapping-sub-u64-requires rem-result sub-result returns-2)
+    tie.close (tie.spec returns (λ c κs. search needs) (λ c. search needs) sub-result returns-2)

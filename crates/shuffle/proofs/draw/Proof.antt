@@ -1,4 +1,4 @@
--- What is drawn from `from` on is what is drawn from `at` on; each turn uses eight bytes of those left. Assumes nothing.
+-- What is drawn from `from` on is what is drawn from `at` on; each turn uses eight bytes of those left.
 use borrow.Author.Needs.{needs}
 use mathlib.Core.Bool.{true, false}
 use mathlib.Core.List.{List}
@@ -36,33 +36,12 @@ drawn-value c =
     ∙ (ap (λ (l : List ℕ). valueAt (λ k. getD l k 0) 0) (c .before .before .before .before .before .before .apply .ensures .1)
     ∙ value-drawn _ _ (granted (c .before .before .before) .0))
 
-loop-holds : tie.Need-loop-holds Inv-loop μ-loop
-loop-holds c = search needs
-
-slice-aggregate-apply : tie.Need-slice-aggregate-apply Inv-loop μ-loop
-slice-aggregate-apply c = search needs
-
-apply-requires : tie.Need-apply-requires Inv-loop μ-loop
-apply-requires c κs = search needs
-
-enum-known-next : tie.Need-enum-known-next Inv-loop μ-loop
-enum-known-next c = search needs
-
-enum-told : tie.Need-enum-told Inv-loop μ-loop
-enum-told c = search needs
-
 returns : tie.Need-returns Inv-loop μ-loop
 returns c =
     let l = c .before .before .before .before .before .before .loop in
     let start = c .before .before .before .before .before .before .before .args in
     let few : leftAt (l .at) < 8 = end-refused (l .at) 8 (sym (c .before .before .before .apply .ensures .0) ∙ c .enum-told .given .1) in
     sym (draws-end (streamOf (now (start .key))) (start .range) (l .at) few) ∙ l .inv
-
-value-of-requires : tie.Need-value-of-requires Inv-loop μ-loop
-value-of-requires c κs = search needs
-
-accepted-requires : tie.Need-accepted-requires Inv-loop μ-loop
-accepted-requires c κs = search needs
 
 rem-t15 : tie.Need-rem-t15 Inv-loop μ-loop
 rem-t15 c = range-some _ _ (sym (c .before .accepted .ensures) ∙ c .if1 .taken)
@@ -94,14 +73,14 @@ draw-spec =
     (tie.spec
     Inv-loop
     μ-loop
-    loop-holds
-    slice-aggregate-apply
-    apply-requires
-    enum-known-next
-    enum-told
+    (λ c. search needs)
+    (λ c. search needs)
+    (λ c κs. search needs)
+    (λ c. search needs)
+    (λ c. search needs)
     returns
-    value-of-requires
-    accepted-requires
+    (λ c κs. search needs)
+    (λ c κs. search needs)
     rem-t15
     returns-2
     loop-less

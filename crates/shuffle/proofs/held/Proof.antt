@@ -1,4 +1,4 @@
--- The test is the definition's, each way. Assumes nothing.
+-- The test is the definition's, each way.
 use borrow.Author.Needs.{needs}
 use mathlib.Core.Path.{sym}
 use borrow.Author.Tests.{le-leb, lt-leb}

@@ -1,4 +1,4 @@
--- The first k places hold their entries or 0, k rising. Assumes nothing.
+-- The first k places hold their entries or 0, k rising.
 use borrow.Author.Needs.{needs}
 use mathlib.Core.Path.{_≡_, _∙_}
 use Prim.Native.Nat.{ℕ, _-_, _≤_}
@@ -18,30 +18,12 @@ abbrev μ-loop : tie.MeasureT-loop
 loop-holds : tie.Need-loop-holds Inv-loop μ-loop
 loop-holds c = (search needs, search needs, search needs, filled-none (λ (i : ℕ). getD (c .before .before .args .found .now) i 0) (c .before .before .args .entries .now))
 
-entry-at-requires : tie.Need-entry-at-requires Inv-loop μ-loop
-entry-at-requires c κs = search needs
-
-mul-entries : tie.Need-mul-entries Inv-loop μ-loop
-mul-entries c = search needs
-
-slice-write-entries : tie.Need-slice-write-entries Inv-loop μ-loop
-slice-write-entries c = search needs
-
-add-k : tie.Need-add-k Inv-loop μ-loop
-add-k c = search needs
-
-loop-less : tie.Need-loop-less Inv-loop μ-loop
-loop-less c = search needs
-
 loop-again : tie.Need-loop-again Inv-loop μ-loop
 loop-again c =
     let l = c .before .before .loop in
     let start = c .before .before .before .before .before .args in
     let f : ℕ → ℕ = λ (i : ℕ). getD (start .found .now) i 0 in
     (search needs, search needs, search needs, rw (l .inv .3, c .entry-at .ensures) (filled-more f (l .k) (start .entries .now) (search needs)))
-
-same-length : tie.Need-same-length Inv-loop μ-loop
-same-length c = search needs
 
 returns : tie.Need-returns Inv-loop μ-loop
 unfolding lentFor
@@ -58,11 +40,11 @@ lay-out-spec =
     Inv-loop
     μ-loop
     loop-holds
-    entry-at-requires
-    mul-entries
-    slice-write-entries
-    add-k
-    loop-less
+    (λ c κs. search needs)
+    (λ c. search needs)
+    (λ c. search needs)
+    (λ c. search needs)
+    (λ c. search needs)
     loop-again
-    same-length
+    (λ c. search needs)
     returns)

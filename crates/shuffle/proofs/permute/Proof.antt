@@ -1,4 +1,4 @@
--- What is left to make from here on makes the entries that were to be made from the start on; a turn makes one of them. Assumes nothing.
+-- What is left to make from here on makes the entries that were to be made from the start on; a turn makes one of them.
 use borrow.Author.Needs.{needs}
 use mathlib.Core.Path.{_≡_, refl, sym, ap, _∙_}
 use Prim.Native.Nat.{ℕ, _+_, _-_, _≤_, _<_}
@@ -30,15 +30,6 @@ loop-holds c =
 sub-draw : tie.Need-sub-draw Inv-loop μ-loop
 sub-draw c = omega (arith, c .before .before .before .pre)
 
-draw-requires : tie.Need-draw-requires Inv-loop μ-loop
-draw-requires c κs = search needs
-
-enum-known-r : tie.Need-enum-known-r Inv-loop μ-loop
-enum-known-r c = search needs
-
-enum-told : tie.Need-enum-told Inv-loop μ-loop
-enum-told c = search needs
-
 same-length : tie.Need-same-length Inv-loop μ-loop
 same-length c = c .before .before .before .before .loop .inv .1
 
@@ -54,12 +45,6 @@ place-of-requires c κs = omega (arith, below (c .before .before), c .before .be
 
 exchange-requires : tie.Need-exchange-requires Inv-loop μ-loop
 exchange-requires c κs = omega (arith, below (c .before .before .before), c .place-of .ensures)
-
-add-i : tie.Need-add-i Inv-loop μ-loop
-add-i c = search needs
-
-loop-less : tie.Need-loop-less Inv-loop μ-loop
-loop-less c = search needs
 
 loop-again : tie.Need-loop-again Inv-loop μ-loop
 loop-again c =
@@ -85,15 +70,15 @@ permute-spec =
     μ-loop
     loop-holds
     sub-draw
-    draw-requires
-    enum-known-r
-    enum-told
+    (λ c κs. search needs)
+    (λ c. search needs)
+    (λ c. search needs)
     same-length
     returns
     place-of-requires
     exchange-requires
-    add-i
-    loop-less
+    (λ c. search needs)
+    (λ c. search needs)
     loop-again
     same-length-2
     returns-2)

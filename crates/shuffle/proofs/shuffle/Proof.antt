@@ -1,4 +1,4 @@
--- The list up to `len`, whose front `permute` makes, laid out over the places lent. Assumes nothing.
+-- The list up to `len`, whose front `permute` makes, laid out over the places lent.
 use borrow.Author.Needs.{needs}
 use mathlib.Core.Path.{_≡_, sym, ap, _∙_}
 use Prim.Native.Nat.{ℕ, _≤_, min}
@@ -12,25 +12,10 @@ use Rattle.shuffle.specs.Entries.{front-made}
 use Rattle.shuffle.proofs.shuffle.Statement.{statement}
 use Rattle.shuffle.proofs.shuffle.Tie as tie
 
-held-requires : tie.Need-held-requires
-held-requires c κs = search needs
-
-least-requires : tie.Need-least-requires
-least-requires c κs = search needs
-
-least-requires-2 : tie.Need-least-requires-2
-least-requires-2 c κs = search needs
-
-rising-requires : tie.Need-rising-requires
-rising-requires c κs = search needs
-
 held-length : (c : tie.After-rising) → length (take (c .before .before .before .held .result) (c .rising .result)) ≡ c .before .before .before .held .result
 held-length c =
     let l : length (c .rising .result) ≡ 4096 = ap length (c .rising .ensures) ∙ length-tab (λ (k : ℕ). k) 4096 in
     length-take-le _ _ (omega (arith, c .before .before .before .held .ensures .1))
-
-array-borrow-prefix-list : tie.Need-array-borrow-prefix-list
-array-borrow-prefix-list c = search needs
 
 slice-aggregate-permute : tie.Need-slice-aggregate-permute
 slice-aggregate-permute c = sym (held-length (c .before))
@@ -56,12 +41,6 @@ array-share-prefix-list c = simp length-append (omega (arith, found-made (c .bef
 slice-aggregate-lay-out : tie.Need-slice-aggregate-lay-out
 slice-aggregate-lay-out c = sym (length-take-le _ _ (array-share-prefix-list (c .before)))
 
-lay-out-requires : tie.Need-lay-out-requires
-lay-out-requires c κs = search needs
-
-same-length : tie.Need-same-length
-same-length c = search needs
-
 returns : tie.Need-returns
 returns c =
     let after = c .before .before .before .before .before .before in
@@ -72,15 +51,15 @@ pub shuffle-spec : {M : Type 1} → statement M
 shuffle-spec =
     tie.close
     (tie.spec
-    held-requires
-    least-requires
-    least-requires-2
-    rising-requires
-    array-borrow-prefix-list
+    (λ c κs. search needs)
+    (λ c κs. search needs)
+    (λ c κs. search needs)
+    (λ c κs. search needs)
+    (λ c. search needs)
     slice-aggregate-permute
     permute-requires
     array-share-prefix-list
     slice-aggregate-lay-out
-    lay-out-requires
-    same-length
+    (λ c κs. search needs)
+    (λ c. search needs)
     returns)

@@ -1,4 +1,4 @@
--- The bytes of an arm reach one form of the table, counted from 0; those of the last arm reach none of the four. Assumes nothing.
+-- The bytes of an arm reach one form of the table, counted from 0; those of the last arm reach none of the four.
 use native.Mathlib.Omega.{arith}
 use Rattle.utf8.specs.Forms.{forms}
 use Rattle.utf8.specs.Counted.{counted-char}

@@ -1,4 +1,4 @@
--- The bytes of an arm reach one form of the table, counted from 0 in the order of section 4; those of the last arm reach none of the nine. Assumes nothing.
+-- The bytes of an arm reach one form of the table, counted from 0 in the order of section 4; those of the last arm reach none of the nine.
 use native.Mathlib.Omega.{arith}
 use Rattle.utf8.specs.Forms.{forms}
 use Rattle.utf8.specs.Rfc3629.{UTF8-char}

@@ -1,4 +1,4 @@
--- What `tell` puts down is what `read` answers, of the picture and the key that C hands over. Assumes nothing.
+-- What `tell` puts down is what `read` answers, of the picture and the key that C hands over.
 use borrow.Author.Needs.{needs}
 use mathlib.Core.Path.{_≡_, refl, ap, _∙_}
 use denote.Ref.{now}
@@ -8,21 +8,6 @@ use Rattle.face.specs.Face.{codeOf, givenFor}
 use Rattle.vaikelomu.specs.C.{readFor}
 use Rattle.vaikelomu.proofs.vaikelomu_read.Statement.{statement}
 use Rattle.vaikelomu.proofs.vaikelomu_read.Tie as tie
-
-picture-of-requires : tie.Need-picture-of-requires
-picture-of-requires c κs = search needs
-
-key-of-requires : tie.Need-key-of-requires
-key-of-requires c κs = search needs
-
-read-requires : tie.Need-read-requires
-read-requires c κs = search needs
-
-tell-requires : tie.Need-tell-requires
-tell-requires c κs = search needs
-
-same-length : tie.Need-same-length
-same-length c = search needs
 
 returns : tie.Need-returns
 returns c =
@@ -37,4 +22,4 @@ returns c =
 pub vaikelomu-read-spec : {M : Type 1} → statement M
 vaikelomu-read-spec =
     tie.close
-    (tie.spec picture-of-requires key-of-requires read-requires tell-requires same-length returns)
+    (tie.spec (λ c κs. search needs) (λ c κs. search needs) (λ c κs. search needs) (λ c κs. search needs) (λ c. search needs) returns)

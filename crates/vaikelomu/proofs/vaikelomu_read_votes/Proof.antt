@@ -1,22 +1,13 @@
--- What `tell` puts down is what `read_votes` answers, with the key that C hands over. Assumes nothing.
+-- What `tell` puts down is what `read_votes` answers, with the key that C hands over.
 use borrow.Author.Needs.{needs}
 use mathlib.Core.Path.{ap, _∙_}
 use denote.Ref.{now}
 use Rattle.record.specs.declared.Key.{Key}
 use Rattle.record.specs.declared.Reading.{Reading}
-use Rattle.tally.specs.Tally.{votesReading}
+use Rattle.extract.specs.Extract.{votesReading}
 use Rattle.face.specs.Face.{codeOf, givenFor}
 use Rattle.vaikelomu.proofs.vaikelomu_read_votes.Statement.{statement}
 use Rattle.vaikelomu.proofs.vaikelomu_read_votes.Tie as tie
-
-key-of-requires : tie.Need-key-of-requires
-key-of-requires c κs = search needs
-
-read-votes-requires : tie.Need-read-votes-requires
-read-votes-requires c κs = search needs
-
-tell-requires : tie.Need-tell-requires
-tell-requires c κs = search needs
 
 returns : tie.Need-returns
 returns c =
@@ -28,4 +19,4 @@ returns c =
 
 pub vaikelomu-read-votes-spec : {M : Type 1} → statement M
 vaikelomu-read-votes-spec =
-    tie.close (tie.spec key-of-requires read-votes-requires tell-requires returns)
+    tie.close (tie.spec (λ c κs. search needs) (λ c κs. search needs) (λ c κs. search needs) returns)

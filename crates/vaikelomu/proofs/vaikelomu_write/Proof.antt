@@ -1,4 +1,4 @@
--- The answer as two numbers; samples and work area are as `write` left them, by the picture and the lock that C hands over. Assumes nothing.
+-- The answer as two numbers; samples and work area are as `write` left them, by the picture and the lock that C hands over.
 use borrow.Author.Needs.{needs}
 use mathlib.Core.Path.{_≡_, refl, ap, _∙_}
 use denote.Ref.{now}
@@ -7,27 +7,6 @@ use Rattle.face.specs.Face.{codeOf, givenFor}
 use Rattle.vaikelomu.specs.C.{writtenFor}
 use Rattle.vaikelomu.proofs.vaikelomu_write.Statement.{statement}
 use Rattle.vaikelomu.proofs.vaikelomu_write.Tie as tie
-
-picture-of-requires : tie.Need-picture-of-requires
-picture-of-requires c κs = search needs
-
-lock-of-requires : tie.Need-lock-of-requires
-lock-of-requires c κs = search needs
-
-write-requires : tie.Need-write-requires
-write-requires c κs = search needs
-
-given-for-requires : tie.Need-given-for-requires
-given-for-requires c κs = search needs
-
-code-requires : tie.Need-code-requires
-code-requires c κs = search needs
-
-same-length : tie.Need-same-length
-same-length c = search needs
-
-same-length-2 : tie.Need-same-length-2
-same-length-2 c = search needs
 
 returns : tie.Need-returns
 returns c =
@@ -43,11 +22,11 @@ pub vaikelomu-write-spec : {M : Type 1} → statement M
 vaikelomu-write-spec =
     tie.close
     (tie.spec
-    picture-of-requires
-    lock-of-requires
-    write-requires
-    given-for-requires
-    code-requires
-    same-length
-    same-length-2
+    (λ c κs. search needs)
+    (λ c κs. search needs)
+    (λ c κs. search needs)
+    (λ c κs. search needs)
+    (λ c κs. search needs)
+    (λ c. search needs)
+    (λ c. search needs)
     returns)

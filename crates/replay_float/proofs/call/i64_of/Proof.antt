@@ -1,4 +1,4 @@
--- A negative number is -1 - m with m below 2^63, which is in range. Assumes nothing.
+-- A negative number is -1 - m with m below 2^63, which is in range.
 use borrow.Author.Needs.{needs}
 use borrow.Author.Tests.{lt-ltb}
 use mathlib.Core.Path.{_≡_, sym, ap, subst}
@@ -18,24 +18,9 @@ below : (m : ℕ) → m < 2 ^ 63 → SFits w64 (negsuc 0 -ℤ pos m)
 below zero h = record { sfits = omega arith }
 below (suc m) h = record { sfits = omega arith }
 
-cast-result : tie.Need-cast-result
-cast-result c = search needs
-
-returns : tie.Need-returns
-returns c = search needs
-
-sub-result : tie.Need-sub-result
-sub-result c = search needs
-
-cast-result-2 : tie.Need-cast-result-2
-cast-result-2 c = search needs
-
 sub-result-2 : tie.Need-sub-result-2
 sub-result-2 c = let h : 18446744073709551615 - c .before .args .bits < 2 ^ 63 = omega arith in subst (λ (z : ℤ). SFits w64 (negsuc 0 -ℤ z)) (sym (low _ h)) (below _ h)
 
-returns-2 : tie.Need-returns-2
-returns-2 c = search needs
-
 pub i64-of-spec : {M : Type 1} → statement M
 i64-of-spec =
-    tie.close (tie.spec cast-result returns sub-result cast-result-2 sub-result-2 returns-2)
+    tie.close (tie.spec (λ c. search needs) (λ c. search needs) (λ c. search needs) (λ c. search needs) sub-result-2 (λ c. search needs))

@@ -20,37 +20,10 @@ abbrev μ-loop : tie.MeasureT-loop
 loop-holds : tie.Need-loop-holds Inv-loop μ-loop
 loop-holds c = (search needs, search needs, refl, filled-none _ _)
 
-mul-sum : tie.Need-mul-sum Inv-loop μ-loop
-mul-sum c = search needs
-
-slice-read-sum : tie.Need-slice-read-sum Inv-loop μ-loop
-slice-read-sum c = search needs
-
-mul-sum-2 : tie.Need-mul-sum-2 Inv-loop μ-loop
-mul-sum-2 c = search needs
-
-shared-slice-read-sum : tie.Need-shared-slice-read-sum Inv-loop μ-loop
-shared-slice-read-sum c = search needs
-
-mul-sum-3 : tie.Need-mul-sum-3 Inv-loop μ-loop
-mul-sum-3 c = search needs
-
-slice-write-sum : tie.Need-slice-write-sum Inv-loop μ-loop
-slice-write-sum c = search needs
-
-add-x : tie.Need-add-x Inv-loop μ-loop
-add-x c = search needs
-
-loop-less : tie.Need-loop-less Inv-loop μ-loop
-loop-less c = search needs
-
 loop-again : tie.Need-loop-again Inv-loop μ-loop
 loop-again c =
     let h : c .before .before .before .loop .x < length (now (c .before .before .before .before .args .sum)) = omega arith in
     (search needs, search needs, search needs, rw (c .before .before .before .loop .inv .3, filled-at) (filled-more _ _ _ h))
-
-same-length : tie.Need-same-length Inv-loop μ-loop
-same-length c = search needs
 
 returns : tie.Need-returns Inv-loop μ-loop
 returns c =
@@ -64,14 +37,14 @@ add-row-spec =
     Inv-loop
     μ-loop
     loop-holds
-    mul-sum
-    slice-read-sum
-    mul-sum-2
-    shared-slice-read-sum
-    mul-sum-3
-    slice-write-sum
-    add-x
-    loop-less
+    (λ c. search needs)
+    (λ c. search needs)
+    (λ c. search needs)
+    (λ c. search needs)
+    (λ c. search needs)
+    (λ c. search needs)
+    (λ c. search needs)
+    (λ c. search needs)
     loop-again
-    same-length
+    (λ c. search needs)
     returns)

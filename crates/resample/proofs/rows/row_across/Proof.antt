@@ -23,26 +23,11 @@ loop-holds c = (search needs, search needs, refl, filled-none _ _)
 value-across-requires : tie.Need-value-across-requires Inv-loop μ-loop
 value-across-requires c κs = (c .before .before .before .before .before .before .before .pre, omega arith)
 
-mul-out : tie.Need-mul-out Inv-loop μ-loop
-mul-out c = search needs
-
-slice-write-out : tie.Need-slice-write-out Inv-loop μ-loop
-slice-write-out c = search needs
-
-add-x : tie.Need-add-x Inv-loop μ-loop
-add-x c = search needs
-
-loop-less : tie.Need-loop-less Inv-loop μ-loop
-loop-less c = search needs
-
 loop-again : tie.Need-loop-again Inv-loop μ-loop
 loop-again c =
     let at = c .before .before .loop in
     let h : at .x < length (now (c .before .before .before .before .before .before .before .before .args .out)) = omega arith in
     (search needs, search needs, search needs, rw (at .inv .3, c .value-across .ensures) (filled-more _ _ _ h))
-
-same-length : tie.Need-same-length Inv-loop μ-loop
-same-length c = search needs
 
 returns : tie.Need-returns Inv-loop μ-loop
 returns c =
@@ -58,10 +43,10 @@ row-across-spec =
     μ-loop
     loop-holds
     value-across-requires
-    mul-out
-    slice-write-out
-    add-x
-    loop-less
+    (λ c. search needs)
+    (λ c. search needs)
+    (λ c. search needs)
+    (λ c. search needs)
     loop-again
-    same-length
+    (λ c. search needs)
     returns)

@@ -5,7 +5,7 @@ use native.Mathlib.Omega.{arith}
 use lib.ListN.{length, getD}
 use lib.Ieee.{nan, neg, ofBits}
 use denote.Ref.{now}
-use Rattle.window.specs.Taps.{start, start-rises}
+use Rattle.resample_window.specs.Taps.{start, start-rises}
 use Rattle.resample.specs.Tables.{Tables, soFar, offset-at, place-fits, from-inside, none-yet, one-more, all-there}
 use borrow.Author.Needs.{needs}
 use Rattle.resample.proofs.rows.value_across.Statement.{statement}
@@ -24,27 +24,6 @@ bound c = let p = c .before .before .before .before .before .before .before .bef
 -- and the tap's read lies in the source
 inside : (c : tie.In-loop Inv-loop μ-loop) → getD (now (c .before .before .before .before .before .before .before .before .before .before .args .index)) (c .before .loop .n) 0 < length (now (c .before .before .before .before .before .before .before .before .before .before .args .source))
 inside c = let p = c .before .before .before .before .before .before .before .before .before .before in from-inside (p .pre .0) (p .args .x) (c .before .loop .n) (p .pre .1) (omega arith) (omega arith)
-
-mul-wide : tie.Need-mul-wide Inv-loop μ-loop
-mul-wide c = search needs
-
-shared-slice-read-wide : tie.Need-shared-slice-read-wide Inv-loop μ-loop
-shared-slice-read-wide c = search needs
-
-wide-requires : tie.Need-wide-requires Inv-loop μ-loop
-wide-requires c κs = search needs
-
-add-wide : tie.Need-add-wide Inv-loop μ-loop
-add-wide c = search needs
-
-mul-wide-2 : tie.Need-mul-wide-2 Inv-loop μ-loop
-mul-wide-2 c = search needs
-
-shared-slice-read-wide-2 : tie.Need-shared-slice-read-wide-2 Inv-loop μ-loop
-shared-slice-read-wide-2 c = search needs
-
-wide-requires-2 : tie.Need-wide-requires-2 Inv-loop μ-loop
-wide-requires-2 c κs = search needs
 
 loop-holds : tie.Need-loop-holds Inv-loop μ-loop
 unfolding neg ofBits
@@ -68,20 +47,11 @@ mul-wide-3 c = record { fits = omega (arith, bound (c .before)) }
 shared-slice-read-wide-3 : tie.Need-shared-slice-read-wide-3 Inv-loop μ-loop
 shared-slice-read-wide-3 c = omega (arith, bound (c .before .before))
 
-wide-requires-3 : tie.Need-wide-requires-3 Inv-loop μ-loop
-wide-requires-3 c κs = search needs
-
 mul-t-2 : tie.Need-mul-t-2 Inv-loop μ-loop
 mul-t-2 c = record { fits = omega (arith, inside (c .before .before .before), c .wide3 .ensures) }
 
 shared-slice-read-t-2 : tie.Need-shared-slice-read-t-2 Inv-loop μ-loop
 shared-slice-read-t-2 c = omega (arith, inside (c .before .before .before .before), c .before .wide3 .ensures)
-
-add-n : tie.Need-add-n Inv-loop μ-loop
-add-n c = search needs
-
-loop-less : tie.Need-loop-less Inv-loop μ-loop
-loop-less c = search needs
 
 loop-again : tie.Need-loop-again Inv-loop μ-loop
 loop-again c =
@@ -104,22 +74,22 @@ value-across-spec =
     (tie.spec
     Inv-loop
     μ-loop
-    mul-wide
-    shared-slice-read-wide
-    wide-requires
-    add-wide
-    mul-wide-2
-    shared-slice-read-wide-2
-    wide-requires-2
+    (λ c. search needs)
+    (λ c. search needs)
+    (λ c κs. search needs)
+    (λ c. search needs)
+    (λ c. search needs)
+    (λ c. search needs)
+    (λ c κs. search needs)
     loop-holds
     mul-t
     shared-slice-read-t
     mul-wide-3
     shared-slice-read-wide-3
-    wide-requires-3
+    (λ c κs. search needs)
     mul-t-2
     shared-slice-read-t-2
-    add-n
-    loop-less
+    (λ c. search needs)
+    (λ c. search needs)
     loop-again
     returns)

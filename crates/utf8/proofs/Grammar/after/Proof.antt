@@ -1,19 +1,7 @@
--- Each grammar's own function answers. Assumes nothing.
+-- Each grammar's own function answers.
 use borrow.Author.Needs.{needs}
 use Rattle.utf8.proofs.Grammar.after.Statement.{statement}
 use Rattle.utf8.proofs.Grammar.after.Tie as tie
-
-enum-told : tie.Need-enum-told
-enum-told c = search needs
-
-rfc3629-after-requires : tie.Need-rfc3629-after-requires
-rfc3629-after-requires c κs = search needs
-
-enum-told-2 : tie.Need-enum-told-2
-enum-told-2 c = search needs
-
-counting-after-requires : tie.Need-counting-after-requires
-counting-after-requires c κs = search needs
 
 returns : tie.Need-returns
 returns c = rw (c .before .enum-told .given .1) (c .rfc3629-after .ensures)
@@ -25,9 +13,9 @@ pub after-spec : {M : Type 1} → statement M
 after-spec =
     tie.close
     (tie.spec
-    enum-told
-    rfc3629-after-requires
-    enum-told-2
-    counting-after-requires
+    (λ c. search needs)
+    (λ c κs. search needs)
+    (λ c. search needs)
+    (λ c κs. search needs)
     returns
     returns-2)

@@ -1,4 +1,4 @@
--- What is due and the bytes from i on decide as the whole text does; the measure is what is left of it. Assumes nothing.
+-- What is due and the bytes from i on decide as the whole text does; the measure is what is left of it.
 use borrow.Author.Needs.{needs}
 use borrow.Author.Tests.{ne-eqb}
 use mathlib.Core.Path.{_≡_, refl, sym, _∙_}
@@ -69,12 +69,6 @@ loop-holds : tie.Need-loop-holds Inv-loop μ-loop
 unfolding due
 loop-holds c = (search needs, search needs, taken-is (c .before .args .self) (now (c .before .args .bytes)))
 
-shared-slice-read-b : tie.Need-shared-slice-read-b Inv-loop μ-loop
-shared-slice-read-b c = search needs
-
-after-requires : tie.Need-after-requires Inv-loop μ-loop
-after-requires c κs = search needs
-
 -- the invariant where byte i has been read
 read : (c : tie.After-shared-slice-known2 Inv-loop μ-loop) →
     let start = c .before .before .before .before .args in
@@ -89,15 +83,6 @@ returns c = sym (stops _ _ _ _ _ _ (c .before .if1 .left) (omega arith)) ∙ rea
 
 returns-2 : tie.Need-returns-2 Inv-loop μ-loop
 returns-2 c = sym (stops _ _ _ _ _ _ (c .before .before .if1 .left) (omega arith)) ∙ read (c .before .before .before)
-
-sub-t15 : tie.Need-sub-t15 Inv-loop μ-loop
-sub-t15 c = search needs
-
-add-i : tie.Need-add-i Inv-loop μ-loop
-add-i c = search needs
-
-loop-less : tie.Need-loop-less Inv-loop μ-loop
-loop-less c = search needs
 
 loop-again : tie.Need-loop-again Inv-loop μ-loop
 loop-again c =
@@ -126,12 +111,12 @@ takes-spec =
     Inv-loop
     μ-loop
     loop-holds
-    shared-slice-read-b
-    after-requires
+    (λ c. search needs)
+    (λ c κs. search needs)
     returns
     returns-2
-    sub-t15
-    add-i
-    loop-less
+    (λ c. search needs)
+    (λ c. search needs)
+    (λ c. search needs)
     loop-again
     returns-3)

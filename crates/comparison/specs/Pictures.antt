@@ -1,0 +1,121 @@
+-- A window as two lists, its numbers and its parts, a weight as whether there is one and its value, which rows of samples have a luma, which pictures have a plane, and which take a change of it.
+use mathlib.Core.Path.{_≡_, refl, sym, subst}
+use mathlib.Core.Bool.{Bool, true, false, cond, _&&_, false≢true}
+use mathlib.Core.List.{List, [], _∷_}
+use Prim.Native.Nat.{ℕ, _*_, _≤_, _<_}
+use native.Mathlib.Nat.{mul-le-mul-right}
+use native.Mathlib.Omega.{arith}
+use lib.Dec.{T, eqb, leb, ltb, leb→le, ltb→lt, eqb→eq}
+use lib.IntN.{ℤ}
+use lib.Ieee.{Float, binary32, ofBits}
+use lib.ListN.{length}
+use Rattle.resample_window.specs.Window.{sized}
+use Rattle.resample_window.specs.declared.Window.{Window}
+use Rattle.resample_window.specs.declared.Weight.{Weight}
+use Rattle.resample_window.specs.declared.Weight.the-variants.{Of, Nothing}
+use Rattle.seq.specs.Tab.{tab}
+use Rattle.resample.specs.Samples.{Sized, lumaAt, planeOf, changedOf}
+
+abbrev pub numbersOf : Window → List ℤ
+numbersOf w = w .first ∷ (w .last ∷ [])
+
+abbrev pub partsOf : Window → List Float
+partsOf w = w .center ∷ (w .support ∷ (w .sum ∷ []))
+
+abbrev pub reached : Weight → Bool
+reached (Of _) = true
+reached Nothing = false
+
+-- 0 where there is none
+abbrev pub weightValue : Weight → Float
+weightValue (Of q) = q
+weightValue Nothing = ofBits binary32 0
+
+abbrev pub hasSides : ℕ → ℕ → ℕ → Bool
+hasSides width height channels = sized width && (sized height && (leb 3 channels && leb channels 4))
+
+-- of so many samples, so many pixels: a picture of one row
+abbrev pub hasLuma : ℕ → ℕ → ℕ → Bool
+hasLuma row channels pixels = hasSides pixels 1 channels && eqb row (pixels * channels)
+
+unfoldable pub lumaInto : ℕ → List ℕ → List Float → List Float
+lumaInto channels row out = cond (hasLuma (length row) channels (length out)) (tab (lumaAt channels row) (length out)) out
+
+-- of so many samples, a plane of so many values
+abbrev pub hasPlane : ℕ → ℕ → ℕ → ℕ → ℕ → Bool
+hasPlane width height channels samples plane = hasSides width height channels && (eqb plane 65536 && eqb samples (width * channels * height))
+
+unfoldable pub planeInto : ℕ → ℕ → ℕ → List ℕ → List Float → List Float
+planeInto width height channels samples plane = cond (hasPlane width height channels (length samples) (length plane)) (planeOf width height channels samples) plane
+
+-- of a change of so many values, so many samples
+abbrev pub hasChange : ℕ → ℕ → ℕ → ℕ → ℕ → Bool
+hasChange width height channels change samples = leb 256 width && (leb 256 height && hasPlane width height channels samples change)
+
+unfoldable pub changeInto : ℕ → ℕ → ℕ → List Float → List ℕ → List ℕ
+changeInto width height channels change samples = cond (hasChange width height channels (length change) (length samples)) (changedOf width height channels change samples) samples
+
+-- ---- what the tests give
+
+both : (x y : Bool) → x && y ≡ true → (x ≡ true) × (y ≡ true)
+both true y e = (refl, e)
+both false y e = absurd (false≢true e)
+
+module _ (width height channels : ℕ) (e : hasSides width height channels ≡ true) where
+  sides : (sized width ≡ true) × (sized height && (leb 3 channels && leb channels 4) ≡ true)
+  sides = both (sized width) (sized height && (leb 3 channels && leb channels 4)) e
+
+  height-channels : (sized height ≡ true) × (leb 3 channels && leb channels 4 ≡ true)
+  height-channels = both (sized height) (leb 3 channels && leb channels 4) (sides .1)
+
+  side : (n : ℕ) → sized n ≡ true → (0 < n) × (n ≤ 8192)
+  side n f = let g = both (ltb 0 n) (leb n 8192) f in (ltb→lt 0 n (subst T (sym (g .0)) tt), leb→le n 8192 (subst T (sym (g .1)) tt))
+
+  wide : (0 < width) × (width ≤ 8192)
+  wide = side width (sides .0)
+
+  high : (0 < height) × (height ≤ 8192)
+  high = side height (height-channels .0)
+
+  some : (3 ≤ channels) × (channels ≤ 4)
+  some =
+      let g = both (leb 3 channels) (leb channels 4) (height-channels .1) in
+      (leb→le 3 channels (subst T (sym (g .0)) tt), leb→le channels 4 (subst T (sym (g .1)) tt))
+
+  -- a row has few samples, and a picture
+  pub row-few : width * channels ≤ 32768
+  row-few = omega (arith, mul-le-mul-right channels (wide .1), some .1)
+
+  pub samples-few : width * channels * height ≤ 268435456
+  samples-few = omega (arith, mul-le-mul-right height row-few, high .1)
+
+  pub is-sized : (samples : List ℕ) → length samples ≡ width * channels * height → Sized width height channels samples
+  is-sized samples f = record { wide = wide .0; width-most = wide .1; high = high .0; height-most = high .1; three = some .0; four = some .1; full = f }
+
+pub luma-fits : (row channels pixels : ℕ) → hasLuma row channels pixels ≡ true → (3 ≤ channels) × (channels ≤ 4) × (row ≡ pixels * channels) × (pixels ≤ 8192)
+luma-fits row channels pixels e =
+    let b = both (hasSides pixels 1 channels) (eqb row (pixels * channels)) e in
+    let s = some pixels 1 channels (b .0) in
+    (s .0, s .1, eqb→eq row (pixels * channels) (subst T (sym (b .1)) tt), wide pixels 1 channels (b .0) .1)
+
+module _ (width height channels : ℕ) (samples : List ℕ) (plane : ℕ) (e : hasPlane width height channels (length samples) plane ≡ true) where
+  lengths : (eqb plane 65536 ≡ true) × (eqb (length samples) (width * channels * height) ≡ true)
+  lengths = both (eqb plane 65536) (eqb (length samples) (width * channels * height)) (both (hasSides width height channels) _ e .1)
+
+  pub plane-sized : Sized width height channels samples
+  plane-sized = is-sized width height channels (both (hasSides width height channels) _ e .0) samples (eqb→eq (length samples) (width * channels * height) (subst T (sym (lengths .1)) tt))
+
+  pub plane-room : plane ≡ 65536
+  plane-room = eqb→eq plane 65536 (subst T (sym (lengths .0)) tt)
+
+module _ (width height channels change : ℕ) (samples : List ℕ) (e : hasChange width height channels change (length samples) ≡ true) where
+  no-narrower : (leb 256 width ≡ true) × (leb 256 height && hasPlane width height channels (length samples) change ≡ true)
+  no-narrower = both (leb 256 width) _ e
+
+  no-lower : (leb 256 height ≡ true) × (hasPlane width height channels (length samples) change ≡ true)
+  no-lower = both (leb 256 height) _ (no-narrower .1)
+
+  pub change-fits : Sized width height channels samples × (256 ≤ width) × (256 ≤ height) × (change ≡ 65536)
+  change-fits =
+      let picture = no-lower .1 in
+      (plane-sized width height channels samples change picture, leb→le 256 width (subst T (sym (no-narrower .0)) tt), leb→le 256 height (subst T (sym (no-lower .0)) tt), plane-room width height channels samples change picture)

@@ -1,0 +1,5 @@
+pub mod Grid
+pub mod Matrix
+pub mod Dct
+pub mod Product
+pub mod Columns

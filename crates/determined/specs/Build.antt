@@ -1,6 +1,0 @@
--- Crate `build`: each public function's promise determines its outcome. Assumes nothing.
-use Rattle.determined.specs.One.{Determined, one}
-use Rattle.build.proofs as build
-
-pub build-record-one : Determined build.build_record.ended build.build_record.Reads.Post
-build-record-one κs a x y p q i = (one p q i, x .1)

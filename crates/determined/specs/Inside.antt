@@ -1,9 +1,0 @@
--- Crate `inside`: each public function's promise determines its outcome. Assumes nothing.
-use Rattle.determined.specs.One.{Determined, one}
-use Rattle.inside.proofs as inside
-
-pub sound-one : Determined inside.sound.ended inside.sound.Reads.Post
-sound-one κs a x y p q i = (one p q i, x .1)
-
-pub inside-one : Determined inside.inside.ended inside.inside.Reads.Post
-inside-one κs a x y p q i = (one p q i, x .1)

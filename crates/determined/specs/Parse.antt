@@ -1,6 +1,0 @@
--- Crate `parse`: each public function's promise determines its outcome. Assumes nothing.
-use Rattle.determined.specs.One.{Determined, one}
-use Rattle.parse.proofs as parse
-
-pub parse-record-one : Determined parse.parse_record.ended parse.parse_record.Reads.Post
-parse-record-one κs a x y p q i = (one p q i, x .1)

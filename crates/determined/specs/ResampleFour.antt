@@ -1,0 +1,12 @@
+-- Crate `resample_four`: each public function's promise determines its outcome.
+use Rattle.determined.specs.One.{Determined, one}
+use Rattle.resample_four.proofs as resample_four
+
+pub luma-one : Determined resample_four.luma.ended resample_four.luma.Reads.Post
+luma-one κs a x y p q i = (tt, (tt, (tt, (one p q i, tt))))
+
+pub shares-one : Determined resample_four.shares.ended resample_four.shares.Reads.Post
+shares-one κs a x y p q i = (tt, (one p q i, tt))
+
+pub narrow-four-one : Determined resample_four.narrow_four.ended resample_four.narrow_four.Reads.Post
+narrow-four-one κs a x y p q i = (tt, (tt, (tt, (tt, (tt, (tt, (tt, (tt, (tt, (tt, (one (p .0) (q .0) i, (one (p .1) (q .1) i, tt))))))))))))

@@ -1,0 +1,42 @@
+-- Reading a text from votes: from the scope paper, "What is said when nothing can be done". The first refusal that
+-- applies is given. Definitions only.
+use mathlib.Core.Bool.{not, cond}
+use mathlib.Core.List.{List, [], _∷_}
+use Prim.Native.Nat.{ℕ, zero, suc}
+use lib.Dec.{eqb, ltb}
+use lib.ListN.{length}
+use lib.Ieee.{Float}
+use Rattle.float.specs.Calls.{inUnit}
+use Rattle.refusal.specs.declared.Refusal.the-variants.{BadLength, BadVote}
+use Rattle.record.specs.declared.Key.{Key}
+use Rattle.record.specs.declared.Reading.{Reading}
+use Rattle.record.specs.Record.{short, Outcome, refused, parsedOf}
+use Rattle.record.specs.Answers.{readAs}
+use Rattle.decoder.specs.Demand3.{decodedFrom}
+
+-- what the record says that the votes decode to, and what is read in it
+abbrev pub decodedOutcome : List Float → Key → Outcome
+decodedOutcome votes key = parsedOf short (decodedFrom votes) key
+
+abbrev pub textOf : List Float → Key → Reading
+textOf votes key = readAs (decodedOutcome votes key)
+
+-- a vote for each of the picture's blocks
+abbrev pub blocks : ℕ
+blocks = 1024
+
+-- how many votes stand before the first that is not a number from -1 to 1: its place, or all of them
+unfoldable pub goodVotes : List Float → ℕ
+goodVotes [] = zero
+goodVotes (v ∷ vs) = cond (inUnit v) (suc (goodVotes vs)) zero
+
+-- 6, 15, then the record
+unfoldable pub votesOutcome : List Float → Key → Outcome
+votesOutcome votes key =
+    cond (not (eqb (length votes) blocks)) (refused (BadLength (length votes)))
+    (cond (ltb (goodVotes votes) blocks) (refused (BadVote (goodVotes votes)))
+    (decodedOutcome votes key))
+
+-- the answer: a refusal comes with length 0 and zeros for a text
+unfoldable pub votesReading : List Float → Key → Reading
+votesReading votes key = readAs (votesOutcome votes key)

@@ -1,0 +1,2 @@
+pub mod Extract
+pub mod Theorems

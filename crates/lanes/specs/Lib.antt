@@ -1,2 +1,0 @@
-pub mod Lanes
-pub mod Laws

@@ -1,3 +1,0 @@
-pub mod Marking
-pub mod Blocks
-pub mod Finite

@@ -1,0 +1,27 @@
+-- What the program votes reads, from the scope paper: 4,096 bytes as 1,024 little-endian f32, no key. Definitions only.
+use mathlib.Core.Bool.{false, not, cond}
+use mathlib.Core.List.{List}
+use Prim.Native.Nat.{ℕ}
+use lib.Dec.{eqb}
+use lib.ListN.{length, replicate}
+use lib.Ieee.{Float, binary32, ofBits}
+use Rattle.seq.specs.Tab.{tab}
+use Rattle.refusal.specs.declared.Refusal.the-variants.{BadLength}
+use Rattle.chacha20.specs.Rfc8439.{word}
+use Rattle.record.specs.declared.Key.{Key}
+use Rattle.record.specs.declared.Reading.{Reading}
+use Rattle.record.specs.Record.{refused}
+use Rattle.record.specs.Answers.{readAs}
+use Rattle.extract.specs.Extract.{blocks, votesReading}
+
+-- vote k is the f32 whose pattern is word k of the bytes, the lowest byte first
+unfoldable pub voteAt : List ℕ → ℕ → Float
+voteAt bytes k = ofBits binary32 (word bytes k)
+
+abbrev pub noKey : Key
+noKey = record { given = false; bytes = replicate 32 0 }
+
+unfoldable pub bytesReading : List ℕ → Reading
+bytesReading bytes =
+    cond (not (eqb (length bytes) 4096)) (readAs (refused (BadLength (length bytes))))
+    (votesReading (tab (voteAt bytes) blocks) noKey)

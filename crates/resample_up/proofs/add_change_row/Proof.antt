@@ -1,0 +1,63 @@
+-- The row is kept, and then added.
+use mathlib.Core.Path.{sym, _∙_, ap}
+use native.Mathlib.Omega.{arith}
+use lib.ListN.{length}
+use Rattle.seq.specs.Tab.{length-tab}
+use Rattle.resample.specs.Kept.{part-size}
+use Rattle.resample_up.specs.Widening.{wide-length}
+use Rattle.resample_up.proofs.add_change_row.Statement.{statement}
+use Rattle.resample_up.proofs.add_change_row.Tie as tie
+
+keep-requires : tie.Need-keep-requires
+keep-requires c κs = c .before .before .before .before .before .before .before .before .before .pre
+
+add-end : tie.Need-add-end
+add-end c = record { fits = omega (arith, c .before .before .before .before .keep .ensures .1 .0) }
+
+mul-add-row : tie.Need-mul-add-row
+mul-add-row c = record { fits = omega (arith, c .before .before .before .before .before .keep .ensures .1 .0) }
+
+sub-add-row : tie.Need-sub-add-row
+sub-add-row c = omega arith
+
+part-add-row-start : tie.Need-part-add-row-start
+part-add-row-start c = omega arith
+
+part-add-row-end : tie.Need-part-add-row-end
+part-add-row-end c = let kept = c .before .before .before .before .before .before .keep .ensures in omega (arith, kept .1 .0, kept .0 .kept .rows-room)
+
+add-row-requires : tie.Need-add-row-requires
+add-row-requires c κs =
+    let a = c .before .before .before .before .before .before .before .before .before .before .before .before .before .before .before .before .before .args in
+    let kept = c .before .before .before .before .before .before .before .keep in
+    sym (rw (part-size (kept .result) (length (a .sum .now)), kept .ensures .1 .1) (wide-length (length (a .sum .now)) (a .change .now) (a .k)))
+
+same-length : tie.Need-same-length
+same-length c = c .before .before .before .before .before .before .before .before .before .before .keep .ensures .0 .kept .rows-room ∙ sym (c .before .before .before .before .before .before .before .before .before .before .before .before .before .before .before .before .before .before .before .before .pre .0 .kept .rows-room)
+
+same-length-2 : tie.Need-same-length-2
+same-length-2 c = c .before .before .before .before .before .before .before .before .before .before .keep .ensures .0 .kept .held-room ∙ sym (c .before .before .before .before .before .before .before .before .before .before .before .before .before .before .before .before .before .before .before .before .pre .0 .kept .held-room)
+
+same-length-3 : tie.Need-same-length-3
+same-length-3 c = ap length (c .before .before .add-row .ensures) ∙ length-tab _ _
+
+returns : tie.Need-returns
+returns c =
+    let kept = c .before .before .before .before .before .before .before .before .before .before .keep in
+    (kept .ensures .0, rw (part-size (kept .result) (length (c .before .before .before .before .before .before .before .before .before .before .before .before .before .before .before .before .before .before .before .before .args .sum .now)), kept .ensures .1 .1) at (c .before .before .add-row .ensures))
+
+pub add-change-row-spec : {M : Type 1} → statement M
+add-change-row-spec =
+    tie.close
+    (tie.spec
+    keep-requires
+    add-end
+    mul-add-row
+    sub-add-row
+    part-add-row-start
+    part-add-row-end
+    add-row-requires
+    same-length
+    same-length-2
+    same-length-3
+    returns)
