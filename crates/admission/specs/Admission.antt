@@ -3,9 +3,9 @@ use mathlib.Core.Bool.{not, cond, _||_}
 use Prim.Native.Nat.{ℕ, _+_, _*_}
 use lib.Dec.{eqb, ltb}
 use Rattle.refusal.specs.declared.Refusal.the-variants.{ImageTooSmall, ImageTooLarge, BadChannels, BadLength, WorkTooSmall, NoWatermark}
-use Rattle.record.specs.declared.Answer.{Answer}
-use Rattle.record.specs.declared.Answer.the-variants.{Done, Refused}
-use Rattle.admission.specs.declared.Picture.{Picture}
+use Rattle.refusal.specs.declared.Answer.{Answer}
+use Rattle.refusal.specs.declared.Answer.the-variants.{Done, Refused}
+use Rattle.picture.specs.declared.Picture.{Picture}
 
 unfoldable pub shorter : Picture → ℕ
 shorter p = cond (ltb (p .width) (p .height)) (p .width) (p .height)
@@ -33,8 +33,3 @@ writeAdmission p samples work = cond (ltb (shorter p) 512) (Refused (ImageTooSma
 -- 8 for a zero side, then 4 to 7, for reading, which needs 65,536 + width x height
 unfoldable pub readAdmission : Picture → ℕ → ℕ → Answer
 readAdmission p samples work = cond (eqb (p .width) 0 || eqb (p .height) 0) (Refused NoWatermark) (admission 1 p samples work)
-
--- the first of two answers that is a refusal
-unfoldable pub first : Answer → Answer → Answer
-first Done b = b
-first (Refused r) b = Refused r

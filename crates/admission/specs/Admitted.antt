@@ -7,11 +7,11 @@ use native.Mathlib.Omega.{arith}
 use lib.Dec.{T, eqb, ltb, ltb→lt, nltb→le, eqb→eq}
 use borrow.Author.Tests.{ltb-false, eqb-true, eqb-false, not-false}
 use Rattle.refusal.specs.declared.Refusal.{Refusal}
-use Rattle.record.specs.declared.Answer.{Answer}
-use Rattle.record.specs.declared.Answer.the-variants.{Done, Refused}
-use Rattle.record.specs.Theorems.{refused-not-done}
-use Rattle.admission.specs.declared.Picture.{Picture}
-use Rattle.admission.specs.Admission.{shorter, longer, roomOf, admission, writeAdmission, readAdmission, first}
+use Rattle.refusal.specs.declared.Answer.{Answer}
+use Rattle.refusal.specs.declared.Answer.the-variants.{Done, Refused}
+use Rattle.refusal.specs.Laws.{refused-not-done}
+use Rattle.picture.specs.declared.Picture.{Picture}
+use Rattle.admission.specs.Admission.{shorter, longer, roomOf, admission, writeAdmission, readAdmission}
 
 -- ---- the sides
 
@@ -56,11 +56,6 @@ few c e = go (eqb c 3) (eqb c 4) (eqb→eq c 3) (eqb→eq c 4) e
 past : (t : Bool) (r : Refusal) (rest : Answer) → cond t (Refused r) rest ≡ Done → (t ≡ false) × (rest ≡ Done)
 past true r rest e = absurd (refused-not-done _ e)
 past false r rest e = (refl, e)
-
-pub first-done : (a b : Answer) → first a b ≡ Done → (a ≡ Done) × (b ≡ Done)
-unfolding first
-first-done Done b e = (refl, e)
-first-done (Refused r) b e = absurd (refused-not-done _ e)
 
 pub record Admitted (parts : ℕ) (p : Picture) (samples work : ℕ) : Type 0 where
   pub width-most : p .width ≤ 8192

@@ -1,19 +1,13 @@
-// A picture's sides and channels, and whether a picture with its samples and a work area can be used: for the crate
-// `resilient`, and the one place that knows the limits. From the scope paper, which specs/Admission.antt is.
-use record::Answer;
+// Whether a picture with its samples and a work area can be used: the limits on sides, channels, samples and work area,
+// with the refusals in their order. For `resilient`. From the scope, which specs/Admission.antt states.
+use picture::Picture;
+use refusal::Answer;
 use refusal::Refusal;
 ghost use mathlib.Core.Path.{_≡_};
 ghost use mathlib.Core.Bool.{_||_};
 ghost use Prim.Native.Nat.{_*_, _≤_};
 ghost use lib.Dec.{eqb};
-ghost use Rattle.admission.specs.Admission.{shorter, longer, admission, writeAdmission, readAdmission, first};
-
-// The sides of a picture and the samples of a pixel.
-pub struct Picture {
-    pub width: usize,
-    pub height: usize,
-    pub channels: usize,
-}
+ghost use Rattle.admission.specs.Admission.{shorter, longer, admission, writeAdmission, readAdmission};
 
 // The shorter side that writing needs, and the longest side.
 const SMALLEST: usize = 512;
@@ -101,14 +95,4 @@ pub fn may_read(p: Picture, samples: usize, work: usize) -> Answer
         return Answer::Refused(Refusal::NoWatermark);
     }
     admit(1, p, samples, work)
-}
-
-// The first of two answers that is a refusal.
-pub fn first(a: Answer, b: Answer) -> Answer
-    ensures { λ r. ⌜ r ≡ first a b ⌝ }
-{
-    match a {
-        Answer::Done => b,
-        Answer::Refused(_) => a,
-    }
 }

@@ -6,7 +6,7 @@ use lib.Ieee.{Float}
 use Rattle.float.specs.Base.{zero+}
 use Rattle.resample.specs.Samples.{planeOf, changedOf}
 use Rattle.plane.specs.Plane.{changeOf, votesOf}
-use Rattle.admission.specs.declared.Picture.{Picture}
+use Rattle.picture.specs.declared.Picture.{Picture}
 
 -- the work area after use
 abbrev pub cleared : List Float → List Float

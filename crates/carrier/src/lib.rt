@@ -1,7 +1,7 @@
 // A picture as the carrier of 1,024 bits, in a lent work area: the bits of its blocks put into its samples, and its blocks'
 // votes on the bits that they carry. For the crate `resilient`, which refuses before; the promises are equations over
 // the definitions in specs/Carrier.antt.
-use admission::Picture;
+use picture::Picture;
 ghost use mathlib.Core.Path.{_≡_};
 ghost use Prim.Native.Nat.{_≤_};
 ghost use lib.ListN.{length};

@@ -3,8 +3,8 @@ use keystream::Applied;
 ghost use mathlib.Core.Path.{_≡_};
 ghost use lib.ListN.{length};
 ghost use Rattle.chacha20.specs.Rfc8439.{blockOf};
-ghost use Rattle.keystream.specs.Apply.{appliedOf, bytesAfter};
-ghost use Rattle.comparison.specs.Cipher.{codeOf, nextOf};
+ghost use Rattle.keystream.specs.Apply.{appliedOf, bytesAfter, appliedNumber};
+ghost use Rattle.comparison.specs.Cipher.{nextOf};
 
 #[no_mangle]
 pub extern "C" fn vk_chacha20_block(
@@ -26,14 +26,14 @@ pub extern "C" fn vk_chacha20_apply(
     position: &mut u64,
     bytes: &mut [u8],
 ) -> u8
-    ensures answer { λ r. ⌜ r ≡ codeOf (appliedOf (now (position .entry)) (length (now (bytes .entry)))) ⌝ }
+    ensures answer { λ r. ⌜ r ≡ appliedNumber (appliedOf (now (position .entry)) (length (now (bytes .entry)))) ⌝ }
     ensures next { λ _. ⌜ now (position .exit) ≡ nextOf (now (position .entry)) (appliedOf (now (position .entry)) (length (now (bytes .entry)))) ⌝ }
     ensures lent { λ _. ⌜ now (bytes .exit) ≡ bytesAfter (now (key .entry)) (now (nonce .entry)) (now (position .entry)) (now (bytes .entry)) ⌝ }
 {
     let from = *position;
     let answer = keystream::apply(key, nonce, from, bytes);
     *position = next_after(from, answer);
-    code(answer)
+    keystream::number(answer)
 }
 
 fn next_after(from: u64, answer: Applied) -> u64
@@ -42,14 +42,5 @@ fn next_after(from: u64, answer: Applied) -> u64
     match answer {
         Applied::Next(p) => p,
         Applied::KeystreamEnd => from,
-    }
-}
-
-fn code(answer: Applied) -> u8
-    ensures { λ r. ⌜ r ≡ codeOf answer ⌝ }
-{
-    match answer {
-        Applied::Next(_) => 0,
-        Applied::KeystreamEnd => 14,
     }
 }

@@ -6,7 +6,8 @@ ghost use mathlib.Core.Path.{_≡_};
 ghost use Rattle.record.specs.Record.{short, builtOf, parsedOf};
 ghost use Rattle.record.specs.Answers.{readAs};
 ghost use Rattle.record_build.specs.Answers.{builtAs};
-ghost use Rattle.face.specs.Face.{codeOf, givenFor, lockOf, keyOf};
+ghost use Rattle.refusal.specs.Numbers.{codeOf, givenFor};
+ghost use Rattle.record.specs.Given.{lockFrom, keyFrom};
 
 #[no_mangle]
 pub extern "C" fn vk_record(
@@ -17,9 +18,9 @@ pub extern "C" fn vk_record(
     bytes: &mut [u8; 46],
     given: &mut u64,
 ) -> u8
-    ensures answer { λ r. ⌜ r ≡ codeOf (builtAs (builtOf short (now (text .entry)) (lockOf keyed (now (key .entry)) (now (salt .entry)))) .answer) ⌝ }
-    ensures lent { λ _. ⌜ now (bytes .exit) ≡ builtAs (builtOf short (now (text .entry)) (lockOf keyed (now (key .entry)) (now (salt .entry)))) .bytes ⌝ }
-    ensures number { λ _. ⌜ now (given .exit) ≡ givenFor (builtAs (builtOf short (now (text .entry)) (lockOf keyed (now (key .entry)) (now (salt .entry)))) .answer) ⌝ }
+    ensures answer { λ r. ⌜ r ≡ codeOf (builtAs (builtOf short (now (text .entry)) (lockFrom keyed (now (key .entry)) (now (salt .entry)))) .answer) ⌝ }
+    ensures lent { λ _. ⌜ now (bytes .exit) ≡ builtAs (builtOf short (now (text .entry)) (lockFrom keyed (now (key .entry)) (now (salt .entry)))) .bytes ⌝ }
+    ensures number { λ _. ⌜ now (given .exit) ≡ givenFor (builtAs (builtOf short (now (text .entry)) (lockFrom keyed (now (key .entry)) (now (salt .entry)))) .answer) ⌝ }
 {
     let lock = Lock {
         given: keyed,
@@ -30,8 +31,8 @@ pub extern "C" fn vk_record(
     let made = built.bytes;
     let answer = built.answer;
     *bytes = made;
-    *given = face::given_for(answer);
-    face::code(answer)
+    *given = refusal::given_for(answer);
+    refusal::code(answer)
 }
 
 #[no_mangle]
@@ -43,10 +44,10 @@ pub extern "C" fn vk_parse(
     length: &mut usize,
     given: &mut u64,
 ) -> u8
-    ensures answer { λ r. ⌜ r ≡ codeOf (readAs (parsedOf short (now (bytes .entry)) (keyOf keyed (now (key .entry)))) .answer) ⌝ }
-    ensures lent { λ _. ⌜ now (text .exit) ≡ readAs (parsedOf short (now (bytes .entry)) (keyOf keyed (now (key .entry)))) .text ⌝ }
-    ensures long { λ _. ⌜ now (length .exit) ≡ readAs (parsedOf short (now (bytes .entry)) (keyOf keyed (now (key .entry)))) .length ⌝ }
-    ensures number { λ _. ⌜ now (given .exit) ≡ givenFor (readAs (parsedOf short (now (bytes .entry)) (keyOf keyed (now (key .entry)))) .answer) ⌝ }
+    ensures answer { λ r. ⌜ r ≡ codeOf (readAs (parsedOf short (now (bytes .entry)) (keyFrom keyed (now (key .entry)))) .answer) ⌝ }
+    ensures lent { λ _. ⌜ now (text .exit) ≡ readAs (parsedOf short (now (bytes .entry)) (keyFrom keyed (now (key .entry)))) .text ⌝ }
+    ensures long { λ _. ⌜ now (length .exit) ≡ readAs (parsedOf short (now (bytes .entry)) (keyFrom keyed (now (key .entry)))) .length ⌝ }
+    ensures number { λ _. ⌜ now (given .exit) ≡ givenFor (readAs (parsedOf short (now (bytes .entry)) (keyFrom keyed (now (key .entry)))) .answer) ⌝ }
 {
     let reading = record_parse::parse_record(
         bytes,
@@ -59,6 +60,6 @@ pub extern "C" fn vk_parse(
     let answer = reading.answer;
     *text = read;
     *length = reading.length;
-    *given = face::given_for(answer);
-    face::code(answer)
+    *given = refusal::given_for(answer);
+    refusal::code(answer)
 }

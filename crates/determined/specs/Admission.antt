@@ -7,6 +7,3 @@ may-write-one κs a x y p q i = (one p q i, x .1)
 
 pub may-read-one : Determined admission.may_read.ended admission.may_read.Reads.Post
 may-read-one κs a x y p q i = (one p q i, x .1)
-
-pub first-one : Determined admission.first.ended admission.first.Reads.Post
-first-one κs a x y p q i = (one p q i, x .1)

@@ -7,9 +7,9 @@ use contract.Lifetimes.{Lfts}
 use denote.Ref.{RefT, now}
 use denote.Triple.Entry.{Args}
 use Rattle.determined.specs.One.{Outcome, Allows}
-use Rattle.record.specs.declared.Answer.{Answer}
+use Rattle.refusal.specs.declared.Answer.{Answer}
 use Rattle.record.specs.declared.Lock.{Lock}
-use Rattle.admission.specs.declared.Picture.{Picture}
+use Rattle.picture.specs.declared.Picture.{Picture}
 use Rattle.resilient.specs.Resilient.{Written, writtenOf}
 use Rattle.resilient.proofs.write as write
 

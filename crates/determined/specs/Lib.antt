@@ -27,7 +27,6 @@ pub mod Admission
 pub mod Carrier
 pub mod Extract
 pub mod Resilient
-pub mod Face
 pub mod Vaikelomu
 pub mod Report
 pub mod Example

@@ -1,4 +1,4 @@
--- A request for keystream, and its end. RFC 8439 counts blocks in 32 bits and document 01 starts at block 0, so the
+-- A request for keystream, and its end. RFC 8439 counts blocks in 32 bits and the scope starts at block 0, so the
 -- keystream has 2^32 blocks of 64 bytes, 2^38 bytes. Definitions only.
 use mathlib.Core.Bool.{Bool, cond}
 use mathlib.Core.List.{List}
@@ -24,3 +24,8 @@ appliedOf p n = cond (granted p n) (Next (p + n)) KeystreamEnd
 -- and what the bytes lent for it are afterwards
 unfoldable pub bytesAfter : List ℕ → List ℕ → ℕ → List ℕ → List ℕ
 bytesAfter key nonce p bs = cond (granted p (length bs)) (encrypted key nonce p bs) bs
+
+-- the answer as a number: 0, or that of KeystreamEnd in the table of refusals
+abbrev pub appliedNumber : Applied → ℕ
+appliedNumber (Next _) = 0
+appliedNumber KeystreamEnd = 14

@@ -5,7 +5,7 @@ ghost use mathlib.Core.Path.{_≡_};
 ghost use Prim.Native.Nat.{_+_, _-_, _≤_, _<_, min};
 ghost use lib.ListN.{length, getD};
 ghost use Rattle.chacha20.specs.Rfc8439.{xored, encrypted};
-ghost use Rattle.keystream.specs.Apply.{leftAt, appliedOf, bytesAfter};
+ghost use Rattle.keystream.specs.Apply.{leftAt, appliedOf, bytesAfter, appliedNumber};
 
 // A place in the keystream, as the number of a byte: block n is bytes 64 * n to 64 * n + 63. Blocks
 // are counted in 32 bits, so 2^38 is the end, and any number from there on is at or beyond it.
@@ -84,4 +84,14 @@ pub fn apply(key: &[u8; 32], nonce: &[u8; 12], from: Position, bytes: &mut [u8])
         encrypt(key, nonce, from, bytes);
     }
     answer
+}
+
+// The answer as a number: 0, or 14, the number of KeystreamEnd.
+pub fn number(answer: Applied) -> u8
+    ensures { λ r. ⌜ r ≡ appliedNumber answer ⌝ }
+{
+    match answer {
+        Applied::Next(_) => 0,
+        Applied::KeystreamEnd => 14,
+    }
 }

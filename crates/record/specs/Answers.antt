@@ -2,7 +2,7 @@
 use mathlib.Core.List.{_++_}
 use Prim.Native.Nat.{_-_}
 use lib.ListN.{length, replicate}
-use Rattle.record.specs.declared.Answer.the-variants.{Done, Refused}
+use Rattle.refusal.specs.declared.Answer.the-variants.{Done, Refused}
 use Rattle.record.specs.declared.Reading.{Reading}
 use Rattle.record.specs.Record.{short, Outcome, refused, gives}
 

@@ -1,4 +1,5 @@
 pub mod Record
+pub mod Given
 pub mod Answers
 pub mod Laws
 pub mod Opened

@@ -15,15 +15,11 @@ use Rattle.keystream.specs.Laws.{applied-next}
 use Rattle.utf8.specs.Rfc3629.{wellFormed}
 use Rattle.utf8.specs.Counted.{counted}
 use Rattle.utf8.specs.Texts.{wellFormed-counted}
-use Rattle.record.specs.declared.Answer.the-variants.{Done, Refused}
 use Rattle.record.specs.declared.Lock.{Lock}
 use Rattle.record.specs.declared.Key.{Key}
+use Rattle.record.specs.Given.{openingKey}
 use Rattle.record.specs.Record.{Profile, short, saltAt, lengthAt, outerAt, numberAt, intact, covered, refused, gives, headOf, locked, recordOf, builtOf, textIn, insideOf, parsedOf}
 use Rattle.record.specs.Opened.{outer-right, head-there, mode-keyed, mode-plain, salt-there, text-opened, inside-opened}
-
--- the key that a lock is opened with
-abbrev pub keyOf : Lock → Key
-keyOf lock = record { given = lock .given; bytes = lock .key }
 
 locked-keyed : (p : Profile) (lock : Lock) (bs : List ℕ) → lock .given ≡ true → locked p lock bs ≡ covered p (lock .key) bs
 unfolding locked
@@ -77,16 +73,16 @@ module _ (p : Profile) (apart : eqb (p .keyed) (p .plain) ≡ false) where
 
   -- well-formed text that fits is built, and is read back with the same key or none
   pub round-trip : (text : List ℕ) (lock : Lock) → length (lock .salt) ≡ 4 → length text ≤ p .room → wellFormed text ≡ true
-      → (builtOf p text lock ≡ gives (recordOf p text lock)) × (parsedOf p (recordOf p text lock) (keyOf lock) ≡ gives text)
+      → (builtOf p text lock ≡ gives (recordOf p text lock)) × (parsedOf p (recordOf p text lock) (openingKey lock) ≡ gives text)
   unfolding builtOf
   round-trip text lock four fits good = (rw (le-leb (length text) (p .room) fits, wellFormed-counted text good), back (lock .given) refl)
     where
-      back : (given : Bool) → lock .given ≡ given → parsedOf p (recordOf p text lock) (keyOf lock) ≡ gives text
+      back : (given : Bool) → lock .given ≡ given → parsedOf p (recordOf p text lock) (openingKey lock) ≡ gives text
       back true e =
-          parsed-keyed (recordOf p text lock) (keyOf lock) (outer-right p text lock four fits) (mode-keyed p text lock four fits e) e
+          parsed-keyed (recordOf p text lock) (openingKey lock) (outer-right p text lock four fits) (mode-keyed p text lock four fits e) e
           ∙ (ap (insideOf p WrongPasswordOrDamaged) (sym (locked-keyed p lock (recordOf p text lock) e)) ∙ inside-opened p text lock four fits WrongPasswordOrDamaged good)
       back false e =
-          parsed-plain (recordOf p text lock) (keyOf lock) (outer-right p text lock four fits) (mode-plain p text lock four fits e) e
+          parsed-plain (recordOf p text lock) (openingKey lock) (outer-right p text lock four fits) (mode-plain p text lock four fits e) e
           ∙ (ap (insideOf p Damaged) (sym (locked-plain p lock (recordOf p text lock) e)) ∙ inside-opened p text lock four fits Damaged good)
 
   -- a record built with a key asks for it, and gives the salt
@@ -130,8 +126,3 @@ module _ (p : Profile) (apart : eqb (p .keyed) (p .plain) ≡ false) where
       ∙ (ap textIn (same-locked lock₁ lock₂ (recordOf p text₁ lock₁) (heads .0) same ∙ ap (locked p lock₂) both)
       ∙ text-opened p text₂ lock₂ four₂ fits₂) in
       (texts, heads .0, heads .1)
-
--- ---- answers
-
-pub refused-not-done : (r : Refusal) → Refused r ≡ Done → ⊥
-refused-not-done r e = let z : _≡_ {A = ℕ} 0 1 = cc e in absurd (omega arith)

@@ -3,6 +3,7 @@
 // and reading (`parse`) share: the cipher, the CRC-32 and the reading of what is refused.
 pub mod crc;
 
+use refusal::Answer;
 use refusal::Refusal;
 ghost use mathlib.Core.Path.{_≡_};
 ghost use Prim.Native.Nat.{_≤_};
@@ -43,12 +44,6 @@ pub struct Lock {
 pub struct Key {
     pub given: bool,
     pub bytes: [u8; 32],
-}
-
-// Whether it was done, or else why not.
-pub enum Answer {
-    Done,
-    Refused(Refusal),
 }
 
 // A text, its length and zeros after it; length 0 and zeros where it is refused.

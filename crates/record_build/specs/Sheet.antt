@@ -6,7 +6,7 @@ use lib.ListN.{replicate}
 use Rattle.refusal.specs.declared.Refusal.the-variants.{TextTooLong}
 use Rattle.utf8.specs.Counted.{counted}
 use Rattle.utf8.specs.Forms.{within, forms, following, accepts}
-use Rattle.record.specs.declared.Answer.the-variants.{Done}
+use Rattle.refusal.specs.declared.Answer.the-variants.{Done}
 use Rattle.record.specs.declared.Lock.{Lock}
 use Rattle.record.specs.Record.{short, refused, builtOf}
 use Rattle.record_build.specs.Answers.{builtAs}

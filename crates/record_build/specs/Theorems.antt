@@ -7,10 +7,10 @@ use lib.Dec.{leb}
 use lib.ListN.{length}
 use Rattle.refusal.specs.declared.Refusal.the-variants.{TextTooLong, TextNotUtf8}
 use Rattle.utf8.specs.Counted.{counted}
-use Rattle.record.specs.declared.Answer.the-variants.{Done}
+use Rattle.refusal.specs.declared.Answer.the-variants.{Done}
 use Rattle.record.specs.declared.Lock.{Lock}
 use Rattle.record.specs.Record.{short, refused, gives, recordOf, builtOf}
-use Rattle.record.specs.Theorems.{refused-not-done}
+use Rattle.refusal.specs.Laws.{refused-not-done}
 use Rattle.record_build.specs.Answers.{builtAs}
 
 -- a text that is not refused has its record

@@ -1,6 +1,5 @@
 // The writing of a record: a text checked, laid out with its CRC-32 and put under a key where one is given. The Rust's
 // `build_record`; the definition stands in record/specs/Record.antt.
-use record::Answer;
 use record::INNER;
 use record::KEYED;
 use record::LENGTH;
@@ -12,6 +11,7 @@ use record::SIZE;
 use record::TEXT;
 use record::cover;
 use record::crc;
+use refusal::Answer;
 use refusal::Refusal;
 ghost use mathlib.Core.Path.{_≡_};
 ghost use mathlib.Core.List.{_++_};

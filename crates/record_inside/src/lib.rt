@@ -1,6 +1,5 @@
 // The inside of a record in the clear: length, text, padding and inner CRC, held to what document 01 asks of them, for the
 // crate `parse`. The definition stands in record/specs/Record.antt.
-use record::Answer;
 use record::INNER;
 use record::LENGTH;
 use record::ROOM;
@@ -8,6 +7,7 @@ use record::Reading;
 use record::TEXT;
 use record::crc;
 use record::not_read;
+use refusal::Answer;
 use refusal::Refusal;
 ghost use mathlib.Core.Path.{_≡_};
 ghost use lib.ListN.{length};

@@ -1,5 +1,8 @@
--- The scope paper's table, "What is said when nothing can be done": each refusal's number, and the number given with it. Definitions only.
+-- The table of refusals of the scope: each refusal's number, and the number given with it; and an answer as these two
+-- numbers. Definitions only.
 use Prim.Native.Nat.{ℕ}
+use Rattle.refusal.specs.declared.Answer.{Answer}
+use Rattle.refusal.specs.declared.Answer.the-variants.{Done, Refused}
 use Rattle.refusal.specs.declared.Refusal.{Refusal}
 use Rattle.refusal.specs.declared.Refusal.the-variants.{
   TextTooLong,
@@ -52,3 +55,18 @@ givenOf Damaged = 0
 givenOf WrongPasswordOrDamaged = 0
 givenOf KeystreamEnd = 0
 givenOf (BadVote index) = index
+
+-- ---- an answer: 0, 0 where all is done
+
+abbrev pub codeOf : Answer → ℕ
+codeOf Done = 0
+codeOf (Refused r) = numberOf r
+
+abbrev pub givenFor : Answer → ℕ
+givenFor Done = 0
+givenFor (Refused r) = givenOf r
+
+-- the first of two answers that is a refusal
+unfoldable pub first : Answer → Answer → Answer
+first Done b = b
+first (Refused r) b = Refused r

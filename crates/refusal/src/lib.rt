@@ -1,8 +1,7 @@
-// What is said when nothing can be done: the refusals of the archive's scope paper, in the order of
-// their numbers, each with the value that its number given is made of. This is the one place that knows
-// them, for the crates that read and write marks; hosts see a refusal's number and the number given.
+// The reasons to refuse a call, in the order of their numbers, each with the value that the number given is made of;
+// and the answer of a call, Done or refused. The one place that knows them. Hosts see two numbers: `code` and `given_for`.
 ghost use mathlib.Core.Path.{_≡_};
-ghost use Rattle.refusal.specs.Numbers.{numberOf, givenOf};
+ghost use Rattle.refusal.specs.Numbers.{numberOf, givenOf, codeOf, givenFor, first};
 
 pub enum Refusal {
     // The text's length, over 32 bytes.
@@ -74,5 +73,41 @@ pub fn given(r: Refusal) -> u64
         Refusal::WrongPasswordOrDamaged => 0,
         Refusal::KeystreamEnd => 0,
         Refusal::BadVote(index) => index as u64,
+    }
+}
+
+// Done, or the reason why not.
+pub enum Answer {
+    Done,
+    Refused(Refusal),
+}
+
+// 0 for Done, else the refusal's number.
+pub fn code(answer: Answer) -> u8
+    ensures { λ r. ⌜ r ≡ codeOf answer ⌝ }
+{
+    match answer {
+        Answer::Done => 0,
+        Answer::Refused(r) => number(r),
+    }
+}
+
+// 0 for Done, else the number given with the refusal.
+pub fn given_for(answer: Answer) -> u64
+    ensures { λ r. ⌜ r ≡ givenFor answer ⌝ }
+{
+    match answer {
+        Answer::Done => 0,
+        Answer::Refused(r) => given(r),
+    }
+}
+
+// The first of two answers that is a refusal.
+pub fn first(a: Answer, b: Answer) -> Answer
+    ensures { λ r. ⌜ r ≡ first a b ⌝ }
+{
+    match a {
+        Answer::Done => b,
+        Answer::Refused(_) => a,
     }
 }

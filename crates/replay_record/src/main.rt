@@ -1,8 +1,8 @@
 // Replays the Rust's stored answers for the crates `build` and `parse`: data/build.txt has records built and texts refused, data/parse.txt
 // records read, damaged and refused. A case is six fields in both. Then texts too long for a list are built.
-use record::Answer;
 use record::Key;
 use record::Lock;
+use refusal::Answer;
 use replay_lists::Field;
 ghost use Prim.Native.Nat.{_+_, _≤_, min};
 ghost use lib.ListN.{length};

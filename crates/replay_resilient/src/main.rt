@@ -3,11 +3,11 @@
 // which refusal is given where two apply; pictures of a few pixels and damaged ones, and votes under a key. All memory is
 // lent with something in it and looked at after each call: the samples by their CRC-32, the work area, which has room to
 // spare, place by place.
-use admission::Picture;
-use record::Answer;
+use picture::Picture;
 use record::Key;
 use record::Lock;
 use record::Reading;
+use refusal::Answer;
 use replay_lists::Field;
 use std::num::wrapping_add_u64;
 ghost use Prim.Native.Nat.{_+_, _≤_, _<_, min};

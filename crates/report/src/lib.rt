@@ -2,9 +2,9 @@
 // answer in words. From the scope paper, which specs/Input.antt and specs/Line.antt are.
 mod put;
 
-use record::Answer;
 use record::Key;
 use record::Reading;
+use refusal::Answer;
 use refusal::Refusal;
 ghost use mathlib.Core.Path.{_≡_};
 ghost use Prim.Native.Nat.{_≤_};

@@ -5,14 +5,14 @@ use Prim.Native.Nat.{ℕ}
 use lib.ListN.{length}
 use lib.Ieee.{Float}
 use Rattle.refusal.specs.declared.Refusal.{Refusal}
-use Rattle.record.specs.declared.Answer.{Answer}
-use Rattle.record.specs.declared.Answer.the-variants.{Done, Refused}
+use Rattle.refusal.specs.declared.Answer.{Answer}
+use Rattle.refusal.specs.declared.Answer.the-variants.{Done, Refused}
 use Rattle.record.specs.declared.Key.{Key}
 use Rattle.record.specs.declared.Lock.{Lock}
 use Rattle.record.specs.Record.{refused}
 use Rattle.record.specs.Answers.{readAs}
-use Rattle.record.specs.Theorems.{refused-not-done}
-use Rattle.admission.specs.declared.Picture.{Picture}
+use Rattle.refusal.specs.Laws.{refused-not-done}
+use Rattle.picture.specs.declared.Picture.{Picture}
 use Rattle.admission.specs.Admission.{readAdmission}
 use Rattle.carrier.specs.Carrier.{cleared, markedSamples, pictureVotes}
 use Rattle.extract.specs.Extract.{textOf}

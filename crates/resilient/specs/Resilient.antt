@@ -4,8 +4,9 @@ use mathlib.Core.List.{List}
 use Prim.Native.Nat.{ℕ}
 use lib.ListN.{length}
 use lib.Ieee.{Float}
-use Rattle.record.specs.declared.Answer.{Answer}
-use Rattle.record.specs.declared.Answer.the-variants.{Done, Refused}
+use Rattle.refusal.specs.Numbers.{first}
+use Rattle.refusal.specs.declared.Answer.{Answer}
+use Rattle.refusal.specs.declared.Answer.the-variants.{Done, Refused}
 use Rattle.record.specs.declared.Key.{Key}
 use Rattle.record.specs.declared.Lock.{Lock}
 use Rattle.record.specs.declared.Reading.{Reading}
@@ -14,8 +15,8 @@ use Rattle.record.specs.Answers.{readAs}
 use Rattle.record_build.specs.Answers.{builtAs}
 use Rattle.layout.specs.Places.{blockBits}
 use Rattle.encoder.specs.Ccsds131.{encodeOf}
-use Rattle.admission.specs.declared.Picture.{Picture}
-use Rattle.admission.specs.Admission.{first, writeAdmission, readAdmission}
+use Rattle.picture.specs.declared.Picture.{Picture}
+use Rattle.admission.specs.Admission.{writeAdmission, readAdmission}
 use Rattle.carrier.specs.Carrier.{cleared, markedSamples, pictureVotes}
 use Rattle.extract.specs.Extract.{textOf}
 

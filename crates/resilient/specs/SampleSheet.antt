@@ -9,8 +9,8 @@ use lib.Ieee.{binary32, ofBits, sub}
 use Rattle.float.specs.Base.{zero+, two-to, minus-two-to}
 use Rattle.float.specs.Calls.{floor}
 use Rattle.refusal.specs.declared.Refusal.the-variants.{TextTooLong, ImageTooSmall, ImageTooLarge}
-use Rattle.record.specs.declared.Answer.{Answer}
-use Rattle.record.specs.declared.Answer.the-variants.{Done, Refused}
+use Rattle.refusal.specs.declared.Answer.{Answer}
+use Rattle.refusal.specs.declared.Answer.the-variants.{Done, Refused}
 use Rattle.record.specs.declared.Lock.{Lock}
 use Rattle.record_build.specs.Sheet.{letters, none-passes, of-32-passes, of-33-refused}
 use Rattle.encoder.specs.Ccsds131.{encodeOf}
@@ -21,7 +21,8 @@ use Rattle.block.specs.Sheet.{marked-sheet, term-sheet, rest-sheet}
 use Rattle.resample_window.specs.Sheet.{Line, tap, halved, doubled}
 use Rattle.resample.specs.Samples.{changedRow}
 use Rattle.resample_up.specs.Sheet.{change, written}
-use Rattle.admission.specs.Admission.{shorter, longer, roomOf, admission, writeAdmission, first}
+use Rattle.admission.specs.Admission.{shorter, longer, roomOf, admission, writeAdmission}
+use Rattle.refusal.specs.Numbers.{first}
 use Rattle.resilient.specs.Resilient.{writeAnswer}
 
 -- the answer to writing a text into a picture with all its samples and the work area that it needs

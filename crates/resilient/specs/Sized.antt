@@ -6,7 +6,7 @@ use native.Mathlib.Nat.{mul-assoc, mul-comm, mul-le-mul-right}
 use native.Mathlib.Omega.{arith}
 use lib.ListN.{length}
 use Rattle.resample.specs.Samples.{Sized}
-use Rattle.admission.specs.declared.Picture.{Picture}
+use Rattle.picture.specs.declared.Picture.{Picture}
 use Rattle.admission.specs.Admission.{roomOf}
 use Rattle.admission.specs.Admitted.{Admitted}
 

@@ -11,8 +11,8 @@ use native.Mathlib.Omega.{arith}
 use lib.ListN.{length, getD}
 use lib.Ieee.{Float, nan}
 use Rattle.float.specs.Calls.{inUnit}
-use Rattle.record.specs.declared.Answer.{Answer}
-use Rattle.record.specs.declared.Answer.the-variants.{Done, Refused}
+use Rattle.refusal.specs.declared.Answer.{Answer}
+use Rattle.refusal.specs.declared.Answer.the-variants.{Done, Refused}
 use Rattle.record.specs.declared.Key.{Key}
 use Rattle.record.specs.declared.Lock.{Lock}
 use Rattle.record.specs.Answers.{readAs}
@@ -20,9 +20,10 @@ use Rattle.resample.specs.Samples.{Sized, planeOf}
 use Rattle.resample.specs.Finite.{Bytes, plane-within}
 use Rattle.resample_up.specs.Alpha.{fourth-kept}
 use Rattle.plane.specs.Finite.{length-votes, votes-good}
-use Rattle.admission.specs.declared.Picture.{Picture}
+use Rattle.picture.specs.declared.Picture.{Picture}
 use Rattle.admission.specs.Admission.{readAdmission}
-use Rattle.admission.specs.Admitted.{first-done, write-admitted, read-admitted}
+use Rattle.admission.specs.Admitted.{write-admitted, read-admitted}
+use Rattle.refusal.specs.Laws.{first-done}
 use Rattle.carrier.specs.Carrier.{markedSamples, pictureVotes}
 use Rattle.extract.specs.Extract.{blocks, votesReading}
 use Rattle.extract.specs.Theorems.{all-good, reads-on}

@@ -1,11 +1,11 @@
 // The mark as a whole: a text written into a picture's samples, and read from them. For the archive, its indexer and the
 // crates that offer this to them; the one place that knows the order in which writing and reading refuse. From the scope
 // paper, which specs/Resilient.antt is.
-use admission::Picture;
-use record::Answer;
+use picture::Picture;
 use record::Key;
 use record::Lock;
 use record::Reading;
+use refusal::Answer;
 ghost use mathlib.Core.Path.{_≡_};
 ghost use Rattle.resilient.specs.Resilient.{writtenOf, readingOf};
 
@@ -25,7 +25,7 @@ pub fn write(
     let built = record_build::build_record(text, lock);
     let text_answer = built.answer;
     let picture_answer = admission::may_write(picture, samples.len(), work.len());
-    let answer = admission::first(text_answer, picture_answer);
+    let answer = refusal::first(text_answer, picture_answer);
     let Answer::Done = answer else {
         return answer;
     };

@@ -5,8 +5,8 @@ use Prim.Native.Nat.{ℕ}
 use lib.Dec.{eqb}
 use lib.Ieee.{Float}
 use Rattle.record.specs.declared.Reading.{Reading}
-use Rattle.face.specs.Face.{lockOf, keyOf}
-use Rattle.admission.specs.declared.Picture.{Picture}
+use Rattle.record.specs.Given.{lockFrom, keyFrom}
+use Rattle.picture.specs.declared.Picture.{Picture}
 use Rattle.extract.specs.Extract.{votesReading}
 use Rattle.resilient.specs.Resilient.{Written, writtenOf, Read, readingOf}
 
@@ -18,10 +18,10 @@ abbrev pub pictureOf : ℕ → ℕ → ℕ → Picture
 pictureOf width height channels = record { width = width; height = height; channels = channels }
 
 abbrev pub writtenFor : List ℕ → ℕ → ℕ → ℕ → List ℕ → ℕ → List ℕ → List ℕ → List Float → Written
-writtenFor samples width height channels text locked key salt work = writtenOf text (lockOf (yes locked) key salt) (pictureOf width height channels) samples work
+writtenFor samples width height channels text locked key salt work = writtenOf text (lockFrom (yes locked) key salt) (pictureOf width height channels) samples work
 
 abbrev pub readFor : List ℕ → ℕ → ℕ → ℕ → ℕ → List ℕ → List Float → Read
-readFor samples width height channels keyed key work = readingOf (keyOf (yes keyed) key) (pictureOf width height channels) samples work
+readFor samples width height channels keyed key work = readingOf (keyFrom (yes keyed) key) (pictureOf width height channels) samples work
 
 abbrev pub votesFor : List Float → ℕ → List ℕ → Reading
-votesFor votes keyed key = votesReading votes (keyOf (yes keyed) key)
+votesFor votes keyed key = votesReading votes (keyFrom (yes keyed) key)

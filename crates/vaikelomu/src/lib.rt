@@ -1,12 +1,13 @@
 // The mark from C, for the archive and everyone who links the static library: writing a text into a picture, reading
 // it, and reading it from votes. Numbers and lent memory only; nothing is asked of the caller but that the memory is
 // there. `include/vaikelomu.h` says in words what is promised here.
-use admission::Picture;
+use picture::Picture;
 use record::Key;
 use record::Lock;
 use record::Reading;
 ghost use mathlib.Core.Path.{_≡_};
-ghost use Rattle.face.specs.Face.{codeOf, givenFor, lockOf, keyOf};
+ghost use Rattle.refusal.specs.Numbers.{codeOf, givenFor};
+ghost use Rattle.record.specs.Given.{lockFrom, keyFrom};
 ghost use Rattle.vaikelomu.specs.C.{yes, pictureOf, writtenFor, readFor, votesFor};
 
 fn picture_of(width: usize, height: usize, channels: usize) -> Picture
@@ -21,7 +22,7 @@ fn picture_of(width: usize, height: usize, channels: usize) -> Picture
 
 // A flag is a byte, since C may lend a `bool` that is neither true nor false.
 fn lock_of(locked: u8, key: &[u8; 32], salt: &[u8; 4]) -> Lock
-    ensures { λ r. ⌜ r ≡ lockOf (yes locked) (now (key .entry)) (now (salt .entry)) ⌝ }
+    ensures { λ r. ⌜ r ≡ lockFrom (yes locked) (now (key .entry)) (now (salt .entry)) ⌝ }
 {
     Lock {
         given: locked != 0,
@@ -31,7 +32,7 @@ fn lock_of(locked: u8, key: &[u8; 32], salt: &[u8; 4]) -> Lock
 }
 
 fn key_of(keyed: u8, key: &[u8; 32]) -> Key
-    ensures { λ r. ⌜ r ≡ keyOf (yes keyed) (now (key .entry)) ⌝ }
+    ensures { λ r. ⌜ r ≡ keyFrom (yes keyed) (now (key .entry)) ⌝ }
 {
     Key {
         given: keyed != 0,
@@ -62,8 +63,8 @@ pub extern "C" fn vaikelomu_write(
     let picture = picture_of(width, height, channels);
     let lock = lock_of(locked, key, salt);
     let answer = resilient::write(samples, picture, text, lock, work);
-    *given = face::given_for(answer);
-    face::code(answer)
+    *given = refusal::given_for(answer);
+    refusal::code(answer)
 }
 
 // What was read, put where C looks for it.
@@ -77,8 +78,8 @@ fn tell(reading: Reading, text: &mut [u8; 32], length: &mut usize, given: &mut u
     let said = reading.answer;
     *text = read;
     *length = reading.length;
-    *given = face::given_for(said);
-    face::code(said)
+    *given = refusal::given_for(said);
+    refusal::code(said)
 }
 
 // Reads the picture's text, with no key where `keyed` is 0, else with the key. The answer is 0, with the text, zeros

@@ -5,7 +5,7 @@ use lib.Dec.{lit≤}
 use lib.ListN.{length}
 use lib.Ieee.{Float}
 use denote.Ref.{now}
-use Rattle.record.specs.declared.Answer.the-variants.{Done}
+use Rattle.refusal.specs.declared.Answer.the-variants.{Done}
 use Rattle.admission.specs.Admission.{readAdmission}
 use Rattle.admission.specs.Admitted.{read-admitted}
 use Rattle.extract.specs.Extract.{textOf}

@@ -6,12 +6,13 @@ use native.Mathlib.Omega.{arith}
 use lib.Dec.{lit≤}
 use lib.ListN.{length}
 use denote.Ref.{now}
-use Rattle.record.specs.declared.Answer.the-variants.{Done}
+use Rattle.refusal.specs.declared.Answer.the-variants.{Done}
 use Rattle.record_build.specs.declared.Built.{Built}
 use Rattle.record_build.specs.Theorems.{built-done}
 use Rattle.layout.specs.Places.{blockBits}
 use Rattle.encoder.specs.Ccsds131.{encodeOf}
-use Rattle.admission.specs.Admitted.{first-done, write-admitted}
+use Rattle.admission.specs.Admitted.{write-admitted}
+use Rattle.refusal.specs.Laws.{first-done}
 use Rattle.carrier.specs.Carrier.{markedSamples}
 use Rattle.resilient.specs.Resilient.{bitsOf, writeAnswer, writtenOf}
 use Rattle.resilient.specs.Sized.{sized, plane-room}

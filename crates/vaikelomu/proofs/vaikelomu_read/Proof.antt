@@ -4,7 +4,7 @@ use mathlib.Core.Path.{_≡_, refl, ap, _∙_}
 use denote.Ref.{now}
 use Rattle.record.specs.declared.Reading.{Reading}
 use Rattle.resilient.specs.Resilient.{Read, readingOf}
-use Rattle.face.specs.Face.{codeOf, givenFor}
+use Rattle.refusal.specs.Numbers.{codeOf, givenFor}
 use Rattle.vaikelomu.specs.C.{readFor}
 use Rattle.vaikelomu.proofs.vaikelomu_read.Statement.{statement}
 use Rattle.vaikelomu.proofs.vaikelomu_read.Tie as tie

@@ -5,7 +5,7 @@ use denote.Ref.{now}
 use Rattle.record.specs.declared.Key.{Key}
 use Rattle.record.specs.declared.Reading.{Reading}
 use Rattle.extract.specs.Extract.{votesReading}
-use Rattle.face.specs.Face.{codeOf, givenFor}
+use Rattle.refusal.specs.Numbers.{codeOf, givenFor}
 use Rattle.vaikelomu.proofs.vaikelomu_read_votes.Statement.{statement}
 use Rattle.vaikelomu.proofs.vaikelomu_read_votes.Tie as tie
 

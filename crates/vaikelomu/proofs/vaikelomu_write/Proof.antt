@@ -3,7 +3,7 @@ use borrow.Author.Needs.{needs}
 use mathlib.Core.Path.{_≡_, refl, ap, _∙_}
 use denote.Ref.{now}
 use Rattle.resilient.specs.Resilient.{Written, writtenOf}
-use Rattle.face.specs.Face.{codeOf, givenFor}
+use Rattle.refusal.specs.Numbers.{codeOf, givenFor}
 use Rattle.vaikelomu.specs.C.{writtenFor}
 use Rattle.vaikelomu.proofs.vaikelomu_write.Statement.{statement}
 use Rattle.vaikelomu.proofs.vaikelomu_write.Tie as tie

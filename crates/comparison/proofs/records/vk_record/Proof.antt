@@ -2,7 +2,7 @@
 use borrow.Author.Needs.{needs}
 use mathlib.Core.Path.{ap, _∙_}
 use Rattle.record_build.specs.declared.Built.{Built}
-use Rattle.face.specs.Face.{codeOf, givenFor}
+use Rattle.refusal.specs.Numbers.{codeOf, givenFor}
 use Rattle.comparison.proofs.records.vk_record.Statement.{statement}
 use Rattle.comparison.proofs.records.vk_record.Tie as tie
 

@@ -1,9 +1,9 @@
 -- By the two answers that there are.
 use mathlib.Core.Path.{refl}
 use borrow.Author.Needs.{needs}
-use Rattle.admission.specs.Admission.{first}
-use Rattle.admission.proofs.first.Statement.{statement}
-use Rattle.admission.proofs.first.Tie as tie
+use Rattle.refusal.specs.Numbers.{first}
+use Rattle.refusal.proofs.first.Statement.{statement}
+use Rattle.refusal.proofs.first.Tie as tie
 
 returns : tie.Need-returns
 unfolding first
