@@ -42,8 +42,8 @@ module _ (p : Picture) where
 
 -- ---- the channels
 
-pub few : (c : ℕ) → (eqb c 3 || eqb c 4) ≡ true → (3 ≤ c) × (c ≤ 4)
-few c e = go (eqb c 3) (eqb c 4) (eqb→eq c 3) (eqb→eq c 4) e
+pub three-or-four : (c : ℕ) → (eqb c 3 || eqb c 4) ≡ true → (3 ≤ c) × (c ≤ 4)
+three-or-four c e = go (eqb c 3) (eqb c 4) (eqb→eq c 3) (eqb→eq c 4) e
   where
     go : (s t : Bool) → (T s → c ≡ 3) → (T t → c ≡ 4) → (s || t) ≡ true → (3 ≤ c) × (c ≤ 4)
     go true t a b e = let h : c ≡ 3 = a tt in (omega arith, omega arith)
@@ -73,7 +73,7 @@ admitted parts p samples work e =
     let length = past _ _ _ (channels .1) in
     let work-area = past _ _ _ (length .1) in
     let long : longer p ≤ 8192 = ltb-false 8192 (longer p) (side .0) in
-    let c = few (p .channels) (not-false _ (channels .0)) in
+    let c = three-or-four (p .channels) (not-false _ (channels .0)) in
     record {
       width-most = omega (arith, sides-most p .0);
       height-most = omega (arith, sides-most p .1);

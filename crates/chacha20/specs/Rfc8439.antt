@@ -1,6 +1,6 @@
 -- ChaCha20 as RFC 8439 defines it, sections 2.1 to 2.4. A word is a number below 2^32, a byte one below 256, and a key, a
 -- nonce, a state, a block and a message are lists of them. `tab f n` is the list f 0, f 1, .. f (n - 1), and `getD l k 0`
--- is what stands at place k of l.
+-- is what stands at place k of l. Definitions only.
 use mathlib.Core.List.{List, [], _∷_, _++_}
 use Prim.Native.Nat.{ℕ, zero, suc, _+_, _-_, _*_, _/_, _%_, _^_}
 use lib.Bits.{bitXor}

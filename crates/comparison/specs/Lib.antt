@@ -1,4 +1,5 @@
 pub mod Bulk
 pub mod Cipher
 pub mod Blocks
+pub mod Stages
 pub mod Pictures

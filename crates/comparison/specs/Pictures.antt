@@ -15,45 +15,7 @@ use Rattle.resample_window.specs.declared.Weight.{Weight}
 use Rattle.resample_window.specs.declared.Weight.the-variants.{Of, Nothing}
 use Rattle.seq.specs.Tab.{tab}
 use Rattle.resample.specs.Samples.{Sized, lumaAt, planeOf, changedOf}
-
-abbrev pub numbersOf : Window → List ℤ
-numbersOf w = w .first ∷ (w .last ∷ [])
-
-abbrev pub partsOf : Window → List Float
-partsOf w = w .center ∷ (w .support ∷ (w .sum ∷ []))
-
-abbrev pub reached : Weight → Bool
-reached (Of _) = true
-reached Nothing = false
-
--- 0 where there is none
-abbrev pub weightValue : Weight → Float
-weightValue (Of q) = q
-weightValue Nothing = ofBits binary32 0
-
-abbrev pub hasSides : ℕ → ℕ → ℕ → Bool
-hasSides width height channels = sized width && (sized height && (leb 3 channels && leb channels 4))
-
--- of so many samples, so many pixels: a picture of one row
-abbrev pub hasLuma : ℕ → ℕ → ℕ → Bool
-hasLuma row channels pixels = hasSides pixels 1 channels && eqb row (pixels * channels)
-
-unfoldable pub lumaInto : ℕ → List ℕ → List Float → List Float
-lumaInto channels row out = cond (hasLuma (length row) channels (length out)) (tab (lumaAt channels row) (length out)) out
-
--- of so many samples, a plane of so many values
-abbrev pub hasPlane : ℕ → ℕ → ℕ → ℕ → ℕ → Bool
-hasPlane width height channels samples plane = hasSides width height channels && (eqb plane 65536 && eqb samples (width * channels * height))
-
-unfoldable pub planeInto : ℕ → ℕ → ℕ → List ℕ → List Float → List Float
-planeInto width height channels samples plane = cond (hasPlane width height channels (length samples) (length plane)) (planeOf width height channels samples) plane
-
--- of a change of so many values, so many samples
-abbrev pub hasChange : ℕ → ℕ → ℕ → ℕ → ℕ → Bool
-hasChange width height channels change samples = leb 256 width && (leb 256 height && hasPlane width height channels samples change)
-
-unfoldable pub changeInto : ℕ → ℕ → ℕ → List Float → List ℕ → List ℕ
-changeInto width height channels change samples = cond (hasChange width height channels (length change) (length samples)) (changedOf width height channels change samples) samples
+use Rattle.comparison.specs.Stages.{hasSides, hasLuma, hasPlane, hasChange}
 
 -- ---- what the tests give
 
@@ -105,8 +67,8 @@ module _ (width height channels : ℕ) (samples : List ℕ) (plane : ℕ) (e : h
   pub plane-sized : Sized width height channels samples
   plane-sized = is-sized width height channels (both (hasSides width height channels) _ e .0) samples (eqb→eq (length samples) (width * channels * height) (subst T (sym (lengths .1)) tt))
 
-  pub plane-room : plane ≡ 65536
-  plane-room = eqb→eq plane 65536 (subst T (sym (lengths .0)) tt)
+  pub plane-length : plane ≡ 65536
+  plane-length = eqb→eq plane 65536 (subst T (sym (lengths .0)) tt)
 
 module _ (width height channels change : ℕ) (samples : List ℕ) (e : hasChange width height channels change (length samples) ≡ true) where
   no-narrower : (leb 256 width ≡ true) × (leb 256 height && hasPlane width height channels (length samples) change ≡ true)
@@ -118,4 +80,4 @@ module _ (width height channels change : ℕ) (samples : List ℕ) (e : hasChang
   pub change-fits : Sized width height channels samples × (256 ≤ width) × (256 ≤ height) × (change ≡ 65536)
   change-fits =
       let picture = no-lower .1 in
-      (plane-sized width height channels samples change picture, leb→le 256 width (subst T (sym (no-narrower .0)) tt), leb→le 256 height (subst T (sym (no-lower .0)) tt), plane-room width height channels samples change picture)
+      (plane-sized width height channels samples change picture, leb→le 256 width (subst T (sym (no-narrower .0)) tt), leb→le 256 height (subst T (sym (no-lower .0)) tt), plane-length width height channels samples change picture)

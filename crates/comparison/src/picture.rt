@@ -5,7 +5,7 @@ ghost use mathlib.Core.Path.{_≡_};
 ghost use Prim.Native.Nat.{_*_};
 ghost use lib.ListN.{length};
 ghost use Rattle.resample_window.specs.Window.{sized, windowOf, weightOf};
-ghost use Rattle.comparison.specs.Pictures.{numbersOf, partsOf, reached, weightValue, hasSides, hasLuma, lumaInto, hasPlane, planeInto, hasChange, changeInto};
+ghost use Rattle.comparison.specs.Stages.{numbersOf, partsOf, hasWeight, weightValue, hasSides, hasLuma, lumaInto, hasPlane, planeInto, hasChange, changeInto};
 
 // The first and the last source number; centre, support and sum.
 #[no_mangle]
@@ -25,7 +25,7 @@ pub extern "C" fn vk_window(
 }
 
 fn is_of(weight: Weight) -> bool
-    ensures { λ r. ⌜ r ≡ reached weight ⌝ }
+    ensures { λ r. ⌜ r ≡ hasWeight weight ⌝ }
 {
     match weight {
         Weight::Of(_) => true,
@@ -45,7 +45,7 @@ fn value(weight: Weight) -> f32
 // Whether the window reaches number j, and with what weight, or 0.
 #[no_mangle]
 pub extern "C" fn vk_weight(src: usize, dst: usize, i: usize, j: i64, weight: &mut f32) -> bool
-    ensures answer { λ r. ⌜ r ≡ reached (weightOf (windowOf src dst i) j) ⌝ }
+    ensures answer { λ r. ⌜ r ≡ hasWeight (weightOf (windowOf src dst i) j) ⌝ }
     ensures lent { λ _. ⌜ now (weight .exit) ≡ weightValue (weightOf (windowOf src dst i) j) ⌝ }
 {
     let found = Window::new(src, dst, i).weight(j);

@@ -1,5 +1,5 @@
 -- CRC-32 as IEEE Std 802.3 defines it in 3.2.9 (Frame Check Sequence field). A list of bits is read as a polynomial over
--- GF(2): the bits are its coefficients, that of the highest power first.
+-- GF(2): the bits are its coefficients, that of the highest power first. Definitions only.
 use mathlib.Core.Bool.{Bool, true, false, not, cond, _&&_, _||_}
 use mathlib.Core.List.{List, [], _∷_, _++_, map, tail}
 use Prim.Native.Nat.{ℕ, zero, suc, _+_, _*_, _/_, _%_}
@@ -9,9 +9,9 @@ use lib.ListN.{length, take, drop, replicate}
 -- ---- octets and bits: an octet is sent low bit first (3.3)
 
 -- the k low bits of n, the low bit first
-unfoldable pub bitsOf : ℕ → ℕ → List Bool
-bitsOf zero n = []
-bitsOf (suc k) n = eqb (n % 2) 1 ∷ bitsOf k (n / 2)
+unfoldable pub lowBits : ℕ → ℕ → List Bool
+lowBits zero n = []
+lowBits (suc k) n = eqb (n % 2) 1 ∷ lowBits k (n / 2)
 
 -- the number that has these bits, the low bit first
 unfoldable pub number : List Bool → ℕ
@@ -21,37 +21,37 @@ number (b ∷ p) = number p * 2 + cond b 1 0
 -- the octets' bits in the order in which they are sent
 unfoldable pub transmitted : List ℕ → List Bool
 transmitted [] = []
-transmitted (b ∷ bytes) = bitsOf 8 b ++ transmitted bytes
+transmitted (b ∷ bytes) = lowBits 8 b ++ transmitted bytes
 
 -- ---- polynomials
 
 -- coefficients add modulo 2
-abbrev pub plus : Bool → Bool → Bool
-plus false b = b
-plus true b = not b
+abbrev pub plusBit : Bool → Bool → Bool
+plusBit false b = b
+plusBit true b = not b
 
 -- the sum of two polynomials that begin at the same power, and their difference too: where one ends, the other goes on
 infixl 40 _⊕_
 unfoldable pub _⊕_ : List Bool → List Bool → List Bool
 [] ⊕ q = q
 (a ∷ p) ⊕ [] = a ∷ p
-(a ∷ p) ⊕ (b ∷ q) = plus a b ∷ (p ⊕ q)
+(a ∷ p) ⊕ (b ∷ q) = plusBit a b ∷ (p ⊕ q)
 
 -- c times p
 unfoldable pub scaled : Bool → List Bool → List Bool
 scaled c p = map (λ b. c && b) p
 
 -- the leading coefficient
-unfoldable pub lead : List Bool → Bool
-lead [] = false
-lead (a ∷ p) = a
+unfoldable pub leadingBit : List Bool → Bool
+leadingBit [] = false
+leadingBit (a ∷ p) = a
 
 -- The remainder of p by g, whose leading coefficient is 1, by long division for n coefficients of the quotient. Each is the
 -- leading coefficient of what is left of p; that many times g is taken away there, and the leading term, now 0, is dropped.
 -- (Division.antt: this is the remainder.)
 unfoldable pub remainder : ℕ → List Bool → List Bool → List Bool
 remainder zero g p = p
-remainder (suc n) g p = remainder n g (tail (p ⊕ scaled (lead p) g))
+remainder (suc n) g p = remainder n g (tail (p ⊕ scaled (leadingBit p) g))
 
 -- the polynomial that has these powers, from that of x^n down to that of x^0
 unfoldable pub among : ℕ → List ℕ → Bool

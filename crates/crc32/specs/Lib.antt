@@ -3,6 +3,7 @@ pub mod Vectors
 pub mod Sum
 pub mod Division
 pub mod Numbers
+pub mod Shift
 pub mod Register
 pub mod Turns
 pub mod Bytes

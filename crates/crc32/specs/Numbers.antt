@@ -12,7 +12,7 @@ use lib.Bits.{bitXor, xor-zero-r, xor-block}
 use lib.Dec.{eqb, lit<}
 use lib.ListN.{length, replicate}
 use lib.Pow.{mod-pow-add}
-use Rattle.crc32.specs.Ieee8023.{plus, _⊕_, scaled, bitsOf, number}
+use Rattle.crc32.specs.Ieee8023.{plusBit, _⊕_, scaled, lowBits, number}
 use Rattle.crc32.specs.Sum.{sum-assoc}
 
 -- ---- one bit
@@ -25,7 +25,7 @@ pub bit-test : (b : Bool) → eqb (cond b 1 0) 1 ≡ b
 bit-test true = refl
 bit-test false = refl
 
-bit-sum : (a b : Bool) → cond (plus a b) 1 0 ≡ bitXor (cond a 1 0) (cond b 1 0)
+bit-sum : (a b : Bool) → cond (plusBit a b) 1 0 ≡ bitXor (cond a 1 0) (cond b 1 0)
 bit-sum false b = refl
 bit-sum true false = refl
 bit-sum true true = refl
@@ -87,7 +87,7 @@ number-append [] q = omega arith
 number-append (b ∷ p) q =
     omega (arith, number-append p q, ap (λ (x : ℕ). number q * x) (pow-suc 2 (length p)), mul-assoc (number q) (2 ^ length p) 2)
 
-pub number-bits : (k n : ℕ) → number (bitsOf k n) ≡ n % 2 ^ k
-unfolding number bitsOf
+pub number-bits : (k n : ℕ) → number (lowBits k n) ≡ n % 2 ^ k
+unfolding number lowBits
 number-bits zero n = sym (mod-one n)
 number-bits (suc k) n = rw (number-bits k (n / 2), low-bit n, ← add-one k) (sym (mod-pow-add n k 1))

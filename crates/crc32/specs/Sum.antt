@@ -5,25 +5,25 @@ use mathlib.Core.List.{List, [], _∷_}
 use Prim.Native.Nat.{ℕ, zero, suc, _≤_, zero-le, suc-le-suc}
 use native.Mathlib.Nat.{le-refl, le-of-suc-le-suc, not-suc-le-zero}
 use lib.ListN.{length, replicate}
-use Rattle.crc32.specs.Ieee8023.{plus, _⊕_, complemented}
+use Rattle.crc32.specs.Ieee8023.{plusBit, _⊕_, complemented}
 
 -- two polynomials are equal where their leading coefficients are, and the rest
 pub both : {a b : Bool} {p q : List Bool} → a ≡ b → p ≡ q → a ∷ p ≡ b ∷ q
 both = ap₂ (λ (a : Bool) (p : List Bool). a ∷ p)
 
-plus-assoc : (a b c : Bool) → plus (plus a b) c ≡ plus a (plus b c)
+plus-assoc : (a b c : Bool) → plusBit (plusBit a b) c ≡ plusBit a (plusBit b c)
 plus-assoc false b c = refl
 plus-assoc true false c = refl
 plus-assoc true true false = refl
 plus-assoc true true true = refl
 
-pub plus-comm : (a b : Bool) → plus a b ≡ plus b a
+pub plus-comm : (a b : Bool) → plusBit a b ≡ plusBit b a
 plus-comm false false = refl
 plus-comm false true = refl
 plus-comm true false = refl
 plus-comm true true = refl
 
-plus-self : (a : Bool) → plus a a ≡ false
+plus-self : (a : Bool) → plusBit a a ≡ false
 plus-self false = refl
 plus-self true = refl
 
@@ -50,12 +50,12 @@ sum-twice (a ∷ p) [] h = refl
 sum-twice (a ∷ p) (b ∷ q) h = both (rw (plus-assoc, plus-self, plus-comm)) (sum-twice p q (le-of-suc-le-suc h))
 
 -- a sum is as long as the longer of the two
-pub length-sum : (p q : List Bool) → length q ≤ length p → length (p ⊕ q) ≡ length p
+pub length-plus : (p q : List Bool) → length q ≤ length p → length (p ⊕ q) ≡ length p
 unfolding _⊕_
-length-sum [] [] h = refl
-length-sum [] (b ∷ q) h = absurd (not-suc-le-zero h)
-length-sum (a ∷ p) [] h = refl
-length-sum (a ∷ p) (b ∷ q) h = ap suc (length-sum p q (le-of-suc-le-suc h))
+length-plus [] [] h = refl
+length-plus [] (b ∷ q) h = absurd (not-suc-le-zero h)
+length-plus (a ∷ p) [] h = refl
+length-plus (a ∷ p) (b ∷ q) h = ap suc (length-plus p q (le-of-suc-le-suc h))
 
 pub sum-longer : (p q : List Bool) → length q ≤ length (p ⊕ q)
 unfolding _⊕_

@@ -7,29 +7,22 @@ use lib.Bits.{bitXor}
 use lib.ListN.{getD}
 use lib.Pow.{field, mod-mod-pow}
 use Rattle.seq.specs.Tab.{tab, getD-tab}
-use Rattle.crc32.specs.Register.{reflected}
-use Rattle.crc32.specs.Turns.{turns, apart}
+use Rattle.crc32.specs.Shift.{reflected, registerTurns, tableEntry, table}
+use Rattle.crc32.specs.Turns.{turns-apart}
 
--- 16 entries for each number of turns: entry 16 k + i is what 4 (k + 1) turns make of the four bits i
-unfoldable pub entry : ℕ → ℕ
-entry m = turns reflected (4 * (m / 16 + 1)) (m % 16)
-
-unfoldable pub table : List ℕ
-table = tab entry 256
-
-pub table-at : (k y : ℕ) → k < 16 → getD table (k * 16 + y % 16) 0 ≡ turns reflected (4 * (k + 1)) (y % 16)
-unfolding table entry
+pub table-at : (k y : ℕ) → k < 16 → getD table (k * 16 + y % 16) 0 ≡ registerTurns reflected (4 * (k + 1)) (y % 16)
+unfolding table tableEntry
 table-at k y h =
     let m = k * 16 + y % 16 in
     let row : m / 16 ≡ k = omega arith in
     let column : m % 16 ≡ y % 16 = omega arith in
-    getD-tab entry 256 m 0 (omega arith) ∙ ap₂ (λ (a b : ℕ). turns reflected (4 * (a + 1)) b) row column
+    getD-tab tableEntry 256 m 0 (omega arith) ∙ ap₂ (λ (a b : ℕ). registerTurns reflected (4 * (a + 1)) b) row column
 
 -- a byte by its two halves
 pub byte-halves : (k y : ℕ)
-    → turns reflected (8 * (k + 1)) (y % 256) ≡ bitXor (turns reflected (4 * (2 * k + 1 + 1)) (y % 16)) (turns reflected (4 * (2 * k + 1)) (y / 16 % 16))
+    → registerTurns reflected (8 * (k + 1)) (y % 256) ≡ bitXor (registerTurns reflected (4 * (2 * k + 1 + 1)) (y % 16)) (registerTurns reflected (4 * (2 * k + 1)) (y / 16 % 16))
 byte-halves k y =
     let n = 4 * (2 * k + 1) in
     let both : 8 * (k + 1) ≡ 4 + n = omega arith in
     let one : 4 * (2 * k + 1 + 1) ≡ 4 + n = omega arith in
-    rw (both, one) (apart reflected 4 n (y % 256) ∙ rw (mod-mod-pow y 4 4, field y 4 4))
+    rw (both, one) (turns-apart reflected 4 n (y % 256) ∙ rw (mod-mod-pow y 4 4, field y 4 4))

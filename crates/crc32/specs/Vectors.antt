@@ -2,10 +2,10 @@
 -- definition.
 use mathlib.Core.Path.{_≡_, refl}
 use mathlib.Core.List.{[], _∷_}
-use Rattle.crc32.specs.Ieee8023.{crcOf, transmitted, bitsOf, number, complemented, remainder, generator, polynomial, among, lead, scaled, _⊕_}
+use Rattle.crc32.specs.Ieee8023.{crcOf, transmitted, lowBits, number, complemented, remainder, generator, polynomial, among, leadingBit, scaled, _⊕_}
 
 pub check-value : crcOf (0x31 ∷ 0x32 ∷ 0x33 ∷ 0x34 ∷ 0x35 ∷ 0x36 ∷ 0x37 ∷ 0x38 ∷ 0x39 ∷ []) ≡ 0xcbf43926
-unfolding crcOf transmitted bitsOf number complemented remainder generator polynomial among lead scaled _⊕_
+unfolding crcOf transmitted lowBits number complemented remainder generator polynomial among leadingBit scaled _⊕_
 check-value = refl
 
 pub empty-message : crcOf [] ≡ 0

@@ -8,10 +8,7 @@ ghost use mathlib.Core.Path.{_≡_};
 ghost use Prim.Native.Nat.{_+_, _*_, _%_, _≤_, _<_};
 ghost use lib.ListN.{length};
 ghost use Rattle.crc32.specs.Ieee8023.{crcOf};
-ghost use Rattle.crc32.specs.Register.{reflected};
-ghost use Rattle.crc32.specs.Turns.{turns};
-ghost use Rattle.crc32.specs.Bytes.{after};
-ghost use Rattle.crc32.specs.Table.{table};
+ghost use Rattle.crc32.specs.Shift.{reflected, registerTurns, registerAfter, table};
 
 // Widened in a call, a byte or a word asks no proof that it fits.
 fn from_u8(x: u8) -> u64
@@ -29,7 +26,7 @@ fn from_u32(x: u32) -> u64
 // What 4 (k + 1) turns of the register make of the low four bits of `y`.
 fn look(words: &[u32; 256], k: usize, y: u64) -> u64
     requires { ⌜ (now words ≡ table) × (k < 16) ⌝ }
-    ensures { λ r. ⌜ r ≡ turns reflected (4 * (k + 1)) (y % 16) ⌝ }
+    ensures { λ r. ⌜ r ≡ registerTurns reflected (4 * (k + 1)) (y % 16) ⌝ }
 {
     from_u32(words[k * 16 + (y % 16) as usize])
 }
@@ -37,7 +34,7 @@ fn look(words: &[u32; 256], k: usize, y: u64) -> u64
 // What 8 (k + 1) turns of the register make of the low byte of `y`.
 fn look_byte(words: &[u32; 256], k: usize, y: u64) -> u64
     requires { ⌜ (now words ≡ table) × (k < 8) ⌝ }
-    ensures { λ r. ⌜ r ≡ turns reflected (8 * (k + 1)) (y % 256) ⌝ }
+    ensures { λ r. ⌜ r ≡ registerTurns reflected (8 * (k + 1)) (y % 256) ⌝ }
 {
     look(words, 2 * k + 1, y) ^ look(words, 2 * k, y / 16)
 }
@@ -46,7 +43,7 @@ fn look_byte(words: &[u32; 256], k: usize, y: u64) -> u64
 // turns and for those of the bytes behind it, so that no look waits for another.
 fn feed(words: &[u32; 256], start: u64, bytes: &[u8]) -> u64
     requires { ⌜ (now words ≡ table) × (length (now bytes) ≤ 8) ⌝ }
-    ensures { λ r. ⌜ r ≡ after start (now (bytes .entry)) ⌝ }
+    ensures { λ r. ⌜ r ≡ registerAfter start (now (bytes .entry)) ⌝ }
 {
     let mut sum: u64 = 0;
     let mut x = start;
@@ -60,7 +57,7 @@ fn feed(words: &[u32; 256], start: u64, bytes: &[u8]) -> u64
 // The register after all bytes, from all ones.
 fn update(words: &[u32; 256], bytes: &[u8]) -> u64
     requires { ⌜ now words ≡ table ⌝ }
-    ensures { λ r. ⌜ r ≡ after 0xffff_ffff (now (bytes .entry)) ⌝ }
+    ensures { λ r. ⌜ r ≡ registerAfter 0xffff_ffff (now (bytes .entry)) ⌝ }
 {
     let mut x = 0xffff_ffff;
     let mut i = 0;

@@ -6,7 +6,7 @@ use lib.Ieee.{Float}
 use contract.Lifetimes.{Lfts}
 use denote.Ref.{RefT, now}
 use denote.Triple.Entry.{Args}
-use Rattle.determined.specs.One.{Outcome, Allows}
+use Rattle.determined.specs.One.{Ending, Allows}
 use Rattle.refusal.specs.declared.Answer.{Answer}
 use Rattle.record.specs.declared.Lock.{Lock}
 use Rattle.picture.specs.declared.Picture.{Picture}
@@ -20,7 +20,7 @@ module _ (κs : Lfts 3) (samples : RefT (List ℕ)) (picture : Picture) (text : 
   abbrev the : Written
   the = writtenOf (now text) lock picture (now samples) (now work)
 
-  pub write-outcome : Outcome write.ended κs arguments ≡ (Answer × (List ℕ × (Unit {0} × (Unit {0} × (Unit {0} × (List Float × Unit {0}))))))
+  pub write-outcome : Ending write.ended κs arguments ≡ (Answer × (List ℕ × (Unit {0} × (Unit {0} × (Unit {0} × (List Float × Unit {0}))))))
   write-outcome = refl
 
   pub write-allows : (r : Answer) (s : List ℕ) (w : List Float) → Allows write.ended write.Reads.Post κs arguments (r, (s, (tt, (tt, (tt, (w, tt)))))) ≡ ((r ≡ the .answer) × ((s ≡ the .samples) × (w ≡ the .work)))

@@ -11,14 +11,14 @@ module _ (f : Ended) where
   abbrev pub Promise : Type 1
   Promise = (κs : Lfts (f .signature .lifetimes)) → Args (f .signature) κs → Res (f .signature) κs → AtExit f κs → Type 0
 
-  abbrev pub Outcome : (κs : Lfts (f .signature .lifetimes)) → Args (f .signature) κs → Type 0
-  Outcome κs a = Res (f .signature) κs × Lasts f κs a
+  abbrev pub Ending : (κs : Lfts (f .signature .lifetimes)) → Args (f .signature) κs → Type 0
+  Ending κs a = Res (f .signature) κs × Lasts f κs a
 
-  abbrev pub Allows : Promise → (κs : Lfts (f .signature .lifetimes)) (a : Args (f .signature) κs) → Outcome κs a → Type 0
+  abbrev pub Allows : Promise → (κs : Lfts (f .signature .lifetimes)) (a : Args (f .signature) κs) → Ending κs a → Type 0
   Allows p κs a x = p κs a (x .0) (atExit f κs a (x .1))
 
   abbrev pub Determined : Promise → Type 0
-  Determined p = (κs : Lfts (f .signature .lifetimes)) (a : Args (f .signature) κs) (x y : Outcome κs a) → Allows p κs a x → Allows p κs a y → x ≡ y
+  Determined p = (κs : Lfts (f .signature .lifetimes)) (a : Args (f .signature) κs) (x y : Ending κs a) → Allows p κs a x → Allows p κs a y → x ≡ y
 
 pub one : {A : Type 0} {x y the : A} → x ≡ the → y ≡ the → x ≡ y
 one e f = e ∙ sym f

@@ -14,7 +14,7 @@ use Rattle.crc32.specs.Ieee8023.{crcOf}
 use Rattle.crc32.specs.Bytes.{crc-lt}
 use Rattle.keystream.specs.Laws.{length-encrypted, encrypted-twice}
 use Rattle.record.specs.declared.Lock.{Lock}
-use Rattle.record.specs.Record.{Profile, innerAt, outerAt, lengthAt, bigEndian, numberAt, summed, intact, covered, headOf, laid, locked, sound}
+use Rattle.record.specs.Record.{Profile, innerAt, outerAt, lengthAt, bigEndian, numberAt, withCrc, intact, covered, headOf, laidOut, locked, sound}
 
 -- ---- parts
 
@@ -45,8 +45,8 @@ drop-zeros n m h =
     let parts : _≡_ {A = List ℕ} (replicate n 0 ++ replicate (m - n) 0) (replicate m 0) = rw whole at (replicate-append-replicate {A = ℕ} n (m - n) 0) in
     rw (← parts) (drop-at (replicate n 0) (replicate (m - n) 0) n (length-replicate {A = ℕ} n 0))
 
-pub pasted : (front xs : List ℕ) (k m : ℕ) → length front ≡ k → length xs ≤ m → paste (front ++ replicate m 0) k xs (length xs) ≡ front ++ (xs ++ replicate (m - length xs) 0)
-pasted front xs k m e h =
+pub pasted-over : (front xs : List ℕ) (k m : ℕ) → length front ≡ k → length xs ≤ m → paste (front ++ replicate m 0) k xs (length xs) ≡ front ++ (xs ++ replicate (m - length xs) 0)
+pasted-over front xs k m e h =
     rw (← e, take-at front (replicate m 0) (length front) refl, take-length xs, drop-append-add front (replicate m 0) (length xs), drop-zeros (length xs) m h)
     (append-assoc front xs (replicate (m - length xs) 0))
 
@@ -65,12 +65,12 @@ number-there xs w ys h =
     let first : getD (xs ++ bs) (length xs) 0 ≡ getD bs 0 0 = rw (← add-zero (length xs)) (getD-append-add xs bs 0 0) in
     rw (first, getD-append-add xs bs 1 0, getD-append-add xs bs 2 0, getD-append-add xs bs 3 0) (four-bytes w h)
 
-pub length-summed : (bs : List ℕ) → length (summed bs) ≡ length bs + 4
-unfolding summed bigEndian
+pub length-summed : (bs : List ℕ) → length (withCrc bs) ≡ length bs + 4
+unfolding withCrc bigEndian
 length-summed bs = length-append bs _
 
-pub intact-summed : (k : ℕ) (bs rest : List ℕ) → length bs ≡ k → intact k (summed bs ++ rest) ≡ true
-unfolding intact summed
+pub intact-summed : (k : ℕ) (bs rest : List ℕ) → length bs ≡ k → intact k (withCrc bs ++ rest) ≡ true
+unfolding intact withCrc
 intact-summed k bs rest e =
     rw (← e, append-assoc bs (bigEndian (crcOf bs)) rest, take-at bs (bigEndian (crcOf bs) ++ rest) (length bs) refl)
     (eq-eqb _ (crcOf bs) (number-there bs (crcOf bs) rest (crc-lt bs)))
@@ -87,8 +87,8 @@ module _ (p : Profile) where
       go true = omega arith
       go false = refl
 
-  pub length-laid : (text : List ℕ) (lock : Lock) → length (lock .salt) ≡ 4 → length text ≤ p .room → length (laid p text lock) ≡ innerAt p
-  unfolding laid
+  pub length-laid : (text : List ℕ) (lock : Lock) → length (lock .salt) ≡ 4 → length text ≤ p .room → length (laidOut p text lock) ≡ innerAt p
+  unfolding laidOut
   length-laid text lock s h =
       simp length-append (omega (arith, length-head lock s, length-append text (replicate (p .room - length text) 0), length-replicate {A = ℕ} (p .room - length text) 0))
 

@@ -12,13 +12,13 @@ use Rattle.refusal.specs.declared.Refusal.{Refusal}
 use Rattle.crc32.specs.Ieee8023.{crcOf}
 use Rattle.utf8.specs.Rfc3629.{wellFormed}
 use Rattle.record.specs.declared.Lock.{Lock}
-use Rattle.record.specs.Record.{Profile, saltAt, lengthAt, textAt, innerAt, outerAt, bigEndian, numberAt, summed, intact, gives, headOf, laid, locked, recordOf, textIn, paddingIn, zeros, sound, insideOf}
+use Rattle.record.specs.Record.{Profile, saltAt, lengthAt, textAt, innerAt, outerAt, bigEndian, numberAt, withCrc, intact, gives, headOf, laidOut, locked, recordOf, textIn, paddingIn, allZero, sound, insideOf}
 use Rattle.record.specs.Laws.{length-summed, intact-summed, length-head, length-laid, take-locked, locked-append, locked-twice, length-locked}
 
 -- ---- the parts of what is laid, whatever stands behind
 
-zeros-are : (n : ℕ) → zeros (replicate n 0) ≡ true
-unfolding zeros
+zeros-are : (n : ℕ) → allZero (replicate n 0) ≡ true
+unfolding allZero
 zeros-are zero = refl
 zeros-are (suc n) = zeros-are n
 
@@ -49,14 +49,14 @@ module _ (front text padding rest : List ℕ) (five : length front ≡ lengthAt)
 
 module _ (p : Profile) (text : List ℕ) (lock : Lock) (four : length (lock .salt) ≡ 4) (fits : length text ≤ p .room) where
   inner : List ℕ
-  inner = summed (laid p text lock)
+  inner = withCrc (laidOut p text lock)
 
   outer : List ℕ
   outer = bigEndian (crcOf (locked p lock inner))
 
   whole : length inner ≡ outerAt p
   unfolding inner
-  whole = omega (arith, length-summed (laid p text lock), length-laid p text lock four fits)
+  whole = omega (arith, length-summed (laidOut p text lock), length-laid p text lock four fits)
 
   enough : outerAt p ≤ length inner
   enough = omega (arith, whole)
@@ -64,16 +64,16 @@ module _ (p : Profile) (text : List ℕ) (lock : Lock) (four : length (lock .sal
   pub outer-right : intact (outerAt p) (recordOf p text lock) ≡ true
   unfolding recordOf inner
   outer-right =
-      rw (← append-nil (summed (locked p lock inner)))
+      rw (← append-nil (withCrc (locked p lock inner)))
       (intact-summed (outerAt p) (locked p lock inner) [] (length-locked p lock inner enough ∙ whole))
 
   -- mode and salt can be read
   inner-head : take lengthAt inner ≡ headOf p lock
-  unfolding inner summed laid
+  unfolding inner withCrc laidOut
   inner-head = rw append-assoc (take-at (headOf p lock) _ lengthAt (length-head p lock four))
 
   pub head-there : take lengthAt (recordOf p text lock) ≡ headOf p lock
-  unfolding recordOf summed outer laid inner
+  unfolding recordOf withCrc outer laidOut inner
   head-there =
       let long : lengthAt ≤ length (locked p lock inner) = omega (arith, length-locked p lock inner enough, enough) in
       take-append-le lengthAt (locked p lock inner) outer long ∙ (take-locked p lock inner enough ∙ inner-head)
@@ -95,13 +95,13 @@ module _ (p : Profile) (text : List ℕ) (lock : Lock) (four : length (lock .sal
 
   -- and the rest once the cipher is undone
   opened : locked p lock (recordOf p text lock) ≡ inner ++ outer
-  unfolding recordOf summed inner outer
+  unfolding recordOf withCrc inner outer
   opened =
       let long : outerAt p ≤ length (locked p lock inner) = omega (arith, length-locked p lock inner enough, enough) in
       locked-append p lock (locked p lock inner) long outer ∙ ap (λ (l : List ℕ). l ++ outer) (locked-twice p lock inner enough)
 
-  shape : inner ++ outer ≡ bytes (headOf p lock) text (replicate (p .room - length text) 0) (bigEndian (crcOf (laid p text lock)) ++ outer) (length-head p lock four)
-  unfolding inner summed laid bytes
+  shape : inner ++ outer ≡ bytes (headOf p lock) text (replicate (p .room - length text) 0) (bigEndian (crcOf (laidOut p text lock)) ++ outer) (length-head p lock four)
+  unfolding inner withCrc laidOut bytes
   shape = simp append-assoc
 
   pub text-opened : textIn (locked p lock (recordOf p text lock)) ≡ text
@@ -112,9 +112,9 @@ module _ (p : Profile) (text : List ℕ) (lock : Lock) (four : length (lock .sal
   sound-opened good =
       let front : List ℕ = headOf p lock in
       let padding : List ℕ = replicate (p .room - length text) 0 in
-      let rest : List ℕ = bigEndian (crcOf (laid p text lock)) ++ outer in
+      let rest : List ℕ = bigEndian (crcOf (laidOut p text lock)) ++ outer in
       let five = length-head p lock four in
-      let right : intact (innerAt p) (inner ++ outer) ≡ true = unfold inner in intact-summed (innerAt p) (laid p text lock) outer (length-laid p text lock four fits) in
+      let right : intact (innerAt p) (inner ++ outer) ≡ true = unfold inner in intact-summed (innerAt p) (laidOut p text lock) outer (length-laid p text lock four fits) in
       rw (text-opened, good, opened, right, shape, length-there front text padding rest five, padding-there front text padding rest five p (length-replicate {A = ℕ} (p .room - length text) 0), zeros-are (p .room - length text), le-leb (length text) (p .room) fits)
 
   pub inside-opened : (wrong : Refusal) → wellFormed text ≡ true → insideOf p wrong (locked p lock (recordOf p text lock)) ≡ gives text

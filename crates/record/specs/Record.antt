@@ -64,8 +64,8 @@ unfoldable pub numberAt : ℕ → List ℕ → ℕ
 numberAt k bs = getD bs k 0 * 2 ^ 24 + getD bs (k + 1) 0 * 2 ^ 16 + getD bs (k + 2) 0 * 2 ^ 8 + getD bs (k + 3) 0
 
 -- bytes with their CRC-32 behind them
-unfoldable pub summed : List ℕ → List ℕ
-summed bs = bs ++ bigEndian (crcOf bs)
+unfoldable pub withCrc : List ℕ → List ℕ
+withCrc bs = bs ++ bigEndian (crcOf bs)
 
 -- the number at k is the CRC-32 of the bytes before it
 unfoldable pub intact : ℕ → List ℕ → Bool
@@ -88,15 +88,15 @@ unfoldable pub headOf : Profile → Lock → List ℕ
 headOf p lock = cond (lock .given) (p .keyed ∷ lock .salt) (p .plain ∷ replicate 4 0)
 
 -- mode, salt, length, text and padding
-unfoldable pub laid : Profile → List ℕ → Lock → List ℕ
-laid p text lock = headOf p lock ++ (length text ∷ text ++ replicate (p .room - length text) 0)
+unfoldable pub laidOut : Profile → List ℕ → Lock → List ℕ
+laidOut p text lock = headOf p lock ++ (length text ∷ text ++ replicate (p .room - length text) 0)
 
 unfoldable pub locked : Profile → Lock → List ℕ → List ℕ
 locked p lock bs = cond (lock .given) (covered p (lock .key) bs) bs
 
 -- the inner CRC, then the cipher, then the outer CRC
 unfoldable pub recordOf : Profile → List ℕ → Lock → List ℕ
-recordOf p text lock = summed (locked p lock (summed (laid p text lock)))
+recordOf p text lock = withCrc (locked p lock (withCrc (laidOut p text lock)))
 
 unfoldable pub builtOf : Profile → List ℕ → Lock → Outcome
 builtOf p text lock =
@@ -112,13 +112,13 @@ textIn bs = take (getD bs lengthAt 0) (drop textAt bs)
 unfoldable pub paddingIn : Profile → List ℕ → List ℕ
 paddingIn p bs = take (p .room - getD bs lengthAt 0) (drop (textAt + getD bs lengthAt 0) bs)
 
-unfoldable pub zeros : List ℕ → Bool
-zeros [] = true
-zeros (b ∷ bs) = eqb b 0 && zeros bs
+unfoldable pub allZero : List ℕ → Bool
+allZero [] = true
+allZero (b ∷ bs) = eqb b 0 && allZero bs
 
 -- the inside is right: length, padding, inner CRC, UTF-8
 unfoldable pub sound : Profile → List ℕ → Bool
-sound p bs = leb (getD bs lengthAt 0) (p .room) && zeros (paddingIn p bs) && intact (innerAt p) bs && wellFormed (textIn bs)
+sound p bs = leb (getD bs lengthAt 0) (p .room) && allZero (paddingIn p bs) && intact (innerAt p) bs && wellFormed (textIn bs)
 
 unfoldable pub insideOf : Profile → Refusal → List ℕ → Outcome
 insideOf p wrong bs = cond (not (sound p bs)) (refused wrong) (gives (textIn bs))

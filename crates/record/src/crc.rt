@@ -3,7 +3,7 @@ ghost use mathlib.Core.Path.{_≡_};
 ghost use mathlib.Core.List.{_++_};
 ghost use Prim.Native.Nat.{_+_, _*_, _^_, _≤_};
 ghost use lib.ListN.{length, take, drop};
-ghost use Rattle.record.specs.Record.{bigEndian, numberAt, summed, intact};
+ghost use Rattle.record.specs.Record.{bigEndian, numberAt, withCrc, intact};
 
 fn big_endian(x: u32) -> [u8; 4]
     ensures { λ r. ⌜ r ≡ bigEndian x ⌝ }
@@ -33,7 +33,7 @@ pub fn number_at(bytes: &[u8], k: usize) -> u32
 // The CRC-32 of the bytes before place k is put there.
 pub fn put_crc(bytes: &mut [u8], k: usize)
     requires { ⌜ k + 4 ≤ length (now bytes) ⌝ }
-    ensures { λ _. ⌜ now (bytes .exit) ≡ summed (take k (now (bytes .entry))) ++ drop (k + 4) (now (bytes .entry)) ⌝ }
+    ensures { λ _. ⌜ now (bytes .exit) ≡ withCrc (take k (now (bytes .entry))) ++ drop (k + 4) (now (bytes .entry)) ⌝ }
 {
     let crc = big_endian(crc32::crc32(&bytes[..k]));
     seq::copy_bytes(&crc, bytes, k);

@@ -5,7 +5,7 @@ use Prim.Native.Nat.{ℕ}
 use lib.ListN.{replicate}
 use Rattle.refusal.specs.declared.Refusal.the-variants.{TextTooLong}
 use Rattle.utf8.specs.Counted.{counted}
-use Rattle.utf8.specs.Forms.{within, forms, following, accepts}
+use Rattle.utf8.specs.Forms.{inRange, forms, following, accepts}
 use Rattle.refusal.specs.declared.Answer.the-variants.{Done}
 use Rattle.record.specs.declared.Lock.{Lock}
 use Rattle.record.specs.Record.{short, refused, builtOf}
@@ -17,11 +17,11 @@ letters n = replicate n 0x61
 
 module _ (lock : Lock) where
   pub none-passes : builtAs (builtOf short [] lock) .answer ≡ Done
-  unfolding builtOf counted accepts following within forms
+  unfolding builtOf counted accepts following inRange forms
   none-passes = refl
 
   pub of-32-passes : builtAs (builtOf short (letters 32) lock) .answer ≡ Done
-  unfolding builtOf counted accepts following within forms
+  unfolding builtOf counted accepts following inRange forms
   of-32-passes = refl
 
   pub of-33-refused : builtOf short (letters 33) lock ≡ refused (TextTooLong 33)

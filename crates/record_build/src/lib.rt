@@ -18,7 +18,7 @@ ghost use mathlib.Core.List.{_++_};
 ghost use Prim.Native.Nat.{_≤_};
 ghost use lib.Dec.{leb};
 ghost use lib.ListN.{length, replicate};
-ghost use Rattle.record.specs.Record.{Outcome, short, size, locked, headOf, laid, recordOf, builtOf};
+ghost use Rattle.record.specs.Record.{Outcome, short, size, locked, headOf, laidOut, recordOf, builtOf};
 ghost use Rattle.record_build.specs.Answers.{builtAs};
 
 // A record; zeros where it is refused.
@@ -53,7 +53,7 @@ fn head(lock: Lock) -> [u8; 5]
 // Mode, salt, length, text and padding, and zeros for the rest.
 fn lay(text: &[u8], lock: Lock) -> [u8; SIZE]
     requires { ⌜ length (now text) ≤ short .room ⌝ }
-    ensures { λ r. ⌜ r ≡ laid short (now (text .entry)) lock ++ replicate 8 0 ⌝ }
+    ensures { λ r. ⌜ r ≡ laidOut short (now (text .entry)) lock ++ replicate 8 0 ⌝ }
 {
     let mut bytes = [0u8; SIZE];
     let start = head(lock);

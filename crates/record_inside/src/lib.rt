@@ -11,12 +11,12 @@ use refusal::Answer;
 use refusal::Refusal;
 ghost use mathlib.Core.Path.{_≡_};
 ghost use lib.ListN.{length};
-ghost use Rattle.record.specs.Record.{short, size, zeros, sound, insideOf};
+ghost use Rattle.record.specs.Record.{short, size, allZero, sound, insideOf};
 ghost use Rattle.record.specs.Answers.{readAs};
 
 // Whether the padding is what it must be.
 fn all_zero(bytes: &[u8]) -> bool
-    ensures { λ r. ⌜ r ≡ zeros (now (bytes .entry)) ⌝ }
+    ensures { λ r. ⌜ r ≡ allZero (now (bytes .entry)) ⌝ }
 {
     for i in 0..bytes.len() {
         if bytes[i] != 0 {

@@ -8,7 +8,7 @@ use replay_lists::stored::word;
 ghost use Prim.Native.Nat.{_≤_};
 ghost use mathlib.Core.Path.{_≡_};
 ghost use lib.ListN.{length};
-ghost use Rattle.replay_lists.specs.Fields.{Within};
+ghost use Rattle.replay_lists.specs.Fields.{InText};
 ghost use Rattle.dct.specs.Grid.{grid};
 ghost use Rattle.dct.specs.Matrix.{entry, turnedEntry};
 
@@ -83,7 +83,7 @@ fn result_size(stage: Stage) -> usize {
 }
 
 fn agrees(text: &[u8], stage: Stage, operand: Field, result: Field) -> bool
-    requires { ⌜ Within (now text) operand × Within (now text) result ⌝ }
+    requires { ⌜ InText (now text) operand × InText (now text) result ⌝ }
 {
     let matrix = dct::dct_matrix();
     let turned = dct::dct_turned();

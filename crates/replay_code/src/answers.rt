@@ -1,5 +1,5 @@
 // The stored lists: records with their coded bits, and votes with the record and the metric that they give.
-ghost use Rattle.replay_lists.specs.Fields.{Within};
+ghost use Rattle.replay_lists.specs.Fields.{InText};
 use replay_lists::Field;
 use replay_lists::stored::bits_of_f32;
 use replay_lists::stored::f32_of;
@@ -15,7 +15,7 @@ fn same_coded(coded: &[u8; 748], packed: &[u8; 94]) -> bool {
 }
 
 fn encodes(text: &[u8], bytes: Field, coded: Field) -> bool
-    requires { ⌜ Within (now text) bytes × Within (now text) coded ⌝ }
+    requires { ⌜ InText (now text) bytes × InText (now text) coded ⌝ }
 {
     let mut plain = [0u8; 46];
     let mut packed = [0u8; 94];
@@ -42,7 +42,7 @@ fn votes(raw: &[u8; 2992]) -> [f32; 748] {
 }
 
 fn decodes(text: &[u8], soft: Field, bytes: Field, metric: Field) -> bool
-    requires { ⌜ Within (now text) soft × Within (now text) bytes × Within (now text) metric ⌝ }
+    requires { ⌜ InText (now text) soft × InText (now text) bytes × InText (now text) metric ⌝ }
 {
     let mut raw = [0u8; 2992];
     let mut expected = [0u8; 46];

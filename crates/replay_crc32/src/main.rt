@@ -1,9 +1,9 @@
 // Compares crc32 with the answers of zlib in data/crc32.txt: each case is a message and its CRC-32.
 use replay_lists::Field;
-ghost use Rattle.replay_lists.specs.Fields.{Within};
+ghost use Rattle.replay_lists.specs.Fields.{InText};
 
 fn agrees(text: &[u8], message: Field, stored: Field) -> bool
-    requires { ⌜ Within (now text) message × Within (now text) stored ⌝ }
+    requires { ⌜ InText (now text) message × InText (now text) stored ⌝ }
 {
     let mut bytes = [0u8; 4096];
     let decoded = replay_lists::hex_bytes(text, message, &mut bytes);

@@ -5,10 +5,10 @@ mod call;
 use call::Call;
 use replay_lists::Field;
 ghost use Prim.Native.Nat.{_≤_};
-ghost use Rattle.replay_lists.specs.Fields.{Within};
+ghost use Rattle.replay_lists.specs.Fields.{InText};
 
 fn agrees(text: &[u8], which: Call, one: Field, other: Field, result: Field) -> bool
-    requires { ⌜ Within (now text) one × Within (now text) other × Within (now text) result ⌝ }
+    requires { ⌜ InText (now text) one × InText (now text) other × InText (now text) result ⌝ }
 {
     let x = replay_lists::hex_number(text, one);
     let y = replay_lists::hex_number(text, other);
@@ -18,8 +18,8 @@ fn agrees(text: &[u8], which: Call, one: Field, other: Field, result: Field) -> 
 
 // The other operand, which is the same again where the call takes one.
 fn other_operand(text: &[u8], which: Call, one: Field) -> Field
-    requires { ⌜ Within (now text) one ⌝ }
-    ensures { λ r. ⌜ Within (now (text .entry)) r × (one .end ≤ r .end) ⌝ }
+    requires { ⌜ InText (now text) one ⌝ }
+    ensures { λ r. ⌜ InText (now (text .entry)) r × (one .end ≤ r .end) ⌝ }
 {
     if which.takes_two() {
         replay_lists::next(text, one.end)

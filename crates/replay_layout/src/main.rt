@@ -11,7 +11,7 @@ use replay_lists::stored::word;
 ghost use Prim.Native.Nat.{_+_, _*_, _≤_};
 ghost use mathlib.Core.Path.{_≡_};
 ghost use lib.ListN.{length};
-ghost use Rattle.replay_lists.specs.Fields.{Within};
+ghost use Rattle.replay_lists.specs.Fields.{InText};
 
 enum Stage {
     Layout,
@@ -97,7 +97,7 @@ fn accepts(raw: &[u8; 50], expected: &[u8; 8202]) -> bool {
 }
 
 fn agrees(text: &[u8], stage: Stage, operand: Field, result: Field) -> bool
-    requires { ⌜ Within (now text) operand × Within (now text) result ⌝ }
+    requires { ⌜ InText (now text) operand × InText (now text) result ⌝ }
 {
     let mut raw = [0u8; 50];
     let mut expected = [0u8; 8202];

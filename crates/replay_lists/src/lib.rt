@@ -7,7 +7,7 @@ ghost use Prim.Native.Nat.{_+_, _/_, _≤_, _<_, min};
 ghost use mathlib.Core.Path.{_≡_};
 ghost use lib.ListN.{length};
 ghost use Rattle.io.specs.Counts.{Counts};
-ghost use Rattle.replay_lists.specs.Fields.{Within};
+ghost use Rattle.replay_lists.specs.Fields.{InText};
 
 // The bytes of a text from `start` up to, not including, `end`. An empty one at the text's end says that none was left.
 pub struct Field {
@@ -55,7 +55,7 @@ pub fn load(path: &[u8], text: &mut [u8]) -> usize
 // The first field at or behind place `at`, past blanks and past lines that begin with #.
 pub fn next(text: &[u8], at: usize) -> Field
     requires { ⌜ at ≤ length (now text) ⌝ }
-    ensures { λ r. ⌜ Within (now (text .entry)) r × (at ≤ r .start) × (min (at + 1) (length (now (text .entry))) ≤ r .end) ⌝ }
+    ensures { λ r. ⌜ InText (now (text .entry)) r × (at ≤ r .start) × (min (at + 1) (length (now (text .entry))) ≤ r .end) ⌝ }
 {
     let start = field_start(text, at);
     if start < text.len() {
@@ -103,7 +103,7 @@ fn until(text: &[u8], at: usize, one: u8, other: u8) -> usize
 
 // The field as a string of bytes, which goes to the start of `bytes`. It is not good where it is none, or has no room there.
 pub fn hex_bytes(text: &[u8], field: Field, bytes: &mut [u8]) -> Decoded
-    requires { ⌜ Within (now text) field ⌝ }
+    requires { ⌜ InText (now text) field ⌝ }
     ensures { λ r. ⌜ Counts (r .count) (now (bytes .exit)) ⌝ }
 {
     let start = field.start;
@@ -140,7 +140,7 @@ fn decode(digits: &[u8], bytes: &mut [u8]) -> bool
 
 // The field as a number of at most sixteen digits.
 pub fn hex_number(text: &[u8], field: Field) -> Number
-    requires { ⌜ Within (now text) field ⌝ }
+    requires { ⌜ InText (now text) field ⌝ }
 {
     let start = field.start;
     let end = field.end;

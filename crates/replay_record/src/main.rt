@@ -6,8 +6,8 @@ use refusal::Answer;
 use replay_lists::Field;
 ghost use Prim.Native.Nat.{_+_, _≤_, min};
 ghost use lib.ListN.{length};
-ghost use Rattle.replay_lists.specs.Fields.{Within};
-ghost use Rattle.replay_record.specs.Cases.{Whole};
+ghost use Rattle.replay_lists.specs.Fields.{InText};
+ghost use Rattle.replay_record.specs.Cases.{RecordCase};
 
 // The fields of a case, in their order.
 struct Case {
@@ -22,7 +22,7 @@ struct Case {
 // The next six fields at or behind place `at`.
 fn case_at(text: &[u8], at: usize) -> Case
     requires { ⌜ at ≤ length (now text) ⌝ }
-    ensures { λ r. ⌜ Whole (now (text .entry)) r × (min (at + 1) (length (now (text .entry))) ≤ r .f .end) ⌝ }
+    ensures { λ r. ⌜ RecordCase (now (text .entry)) r × (min (at + 1) (length (now (text .entry))) ≤ r .f .end) ⌝ }
 {
     let a = replay_lists::next(text, at);
     let b = replay_lists::next(text, a.end);
@@ -35,7 +35,7 @@ fn case_at(text: &[u8], at: usize) -> Case
 
 // Whether the answer is the stored refusal with the number given, or 0 and 0 where there is none.
 fn told(text: &[u8], answer: Answer, number: Field, given: Field) -> bool
-    requires { ⌜ Within (now text) number × Within (now text) given ⌝ }
+    requires { ⌜ InText (now text) number × InText (now text) given ⌝ }
 {
     let n = replay_lists::hex_number(text, number);
     let g = replay_lists::hex_number(text, given);
@@ -56,7 +56,7 @@ struct Stored {
 }
 
 fn key_of(text: &[u8], key: Field) -> Stored
-    requires { ⌜ Within (now text) key ⌝ }
+    requires { ⌜ InText (now text) key ⌝ }
 {
     let mut bytes = [0u8; 32];
     let decoded = replay_lists::hex_bytes(text, key, &mut bytes);
@@ -69,7 +69,7 @@ fn key_of(text: &[u8], key: Field) -> Stored
 
 // Text, key, salt; the refusal, the number given, the record. A salt goes with a key.
 fn built(text: &[u8], case: Case) -> bool
-    requires { ⌜ Whole (now text) case ⌝ }
+    requires { ⌜ RecordCase (now text) case ⌝ }
 {
     let Case { a, b, c, d, e, f } = case;
     let mut bytes = [0u8; 512];
@@ -98,7 +98,7 @@ fn built(text: &[u8], case: Case) -> bool
 
 // Record, key; the refusal, the number given, the length, the text with zeros after it.
 fn parsed(text: &[u8], case: Case) -> bool
-    requires { ⌜ Whole (now text) case ⌝ }
+    requires { ⌜ RecordCase (now text) case ⌝ }
 {
     let Case { a, b, c, d, e, f } = case;
     let mut bytes = [0u8; 46];
@@ -125,7 +125,7 @@ fn parsed(text: &[u8], case: Case) -> bool
 }
 
 fn agrees(text: &[u8], case: Case, reading: bool) -> bool
-    requires { ⌜ Whole (now text) case ⌝ }
+    requires { ⌜ RecordCase (now text) case ⌝ }
 {
     if reading {
         parsed(text, case)

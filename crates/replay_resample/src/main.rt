@@ -19,7 +19,7 @@ use std::num::nearest_i64_to_f64;
 ghost use Prim.Native.Nat.{_+_, _*_, _^_, _≤_, _<_};
 ghost use mathlib.Core.Path.{_≡_};
 ghost use lib.ListN.{length};
-ghost use Rattle.replay_lists.specs.Fields.{Within};
+ghost use Rattle.replay_lists.specs.Fields.{InText};
 
 enum Stage {
     Window,
@@ -337,7 +337,7 @@ fn is_changed(raw: &[u8], count: usize, expected: &[u8]) -> bool
 }
 
 fn agrees(text: &[u8], stage: Stage, operand: Field, result: Field) -> bool
-    requires { ⌜ Within (now text) operand × Within (now text) result ⌝ }
+    requires { ⌜ InText (now text) operand × InText (now text) result ⌝ }
 {
     let mut raw = [0u8; 4096];
     let mut expected = [0u8; 256];

@@ -13,8 +13,8 @@ use std::num::wrapping_add_u64;
 ghost use Prim.Native.Nat.{_+_, _≤_, _<_, min};
 ghost use mathlib.Core.Path.{_≡_};
 ghost use lib.ListN.{length};
-ghost use Rattle.replay_lists.specs.Fields.{Within};
-ghost use Rattle.replay_resilient.specs.Cases.{Whole};
+ghost use Rattle.replay_lists.specs.Fields.{InText};
+ghost use Rattle.replay_resilient.specs.Cases.{MarkCase};
 
 // Samples of four channels, and of three.
 const FOUR: usize = 1048576;
@@ -129,7 +129,7 @@ struct Case {
 
 fn told_at(text: &[u8], at: usize) -> Told
     requires { ⌜ at ≤ length (now text) ⌝ }
-    ensures { λ r. ⌜ Within (now (text .entry)) (r .number) × Within (now (text .entry)) (r .given) × (min (at + 1) (length (now (text .entry))) ≤ r .given .end) ⌝ }
+    ensures { λ r. ⌜ InText (now (text .entry)) (r .number) × InText (now (text .entry)) (r .given) × (min (at + 1) (length (now (text .entry))) ≤ r .given .end) ⌝ }
 {
     let number = replay_lists::next(text, at);
     let given = replay_lists::next(text, number.end);
@@ -139,7 +139,7 @@ fn told_at(text: &[u8], at: usize) -> Told
 // The next ten fields at or behind place `at`.
 fn case_at(text: &[u8], at: usize) -> Case
     requires { ⌜ at ≤ length (now text) ⌝ }
-    ensures { λ r. ⌜ Whole (now (text .entry)) r × (min (at + 1) (length (now (text .entry))) ≤ r .read .given .end) ⌝ }
+    ensures { λ r. ⌜ MarkCase (now (text .entry)) r × (min (at + 1) (length (now (text .entry))) ≤ r .read .given .end) ⌝ }
 {
     let channels = replay_lists::next(text, at);
     let said = replay_lists::next(text, channels.end);
@@ -163,7 +163,7 @@ fn case_at(text: &[u8], at: usize) -> Case
 
 // Whether the answer is the stored one.
 fn was_told(text: &[u8], answer: Answer, told: Told) -> bool
-    requires { ⌜ Within (now text) (told .number) × Within (now text) (told .given) ⌝ }
+    requires { ⌜ InText (now text) (told .number) × InText (now text) (told .given) ⌝ }
 {
     let number = replay_lists::hex_number(text, told.number);
     let given = replay_lists::hex_number(text, told.given);
@@ -172,7 +172,7 @@ fn was_told(text: &[u8], answer: Answer, told: Told) -> bool
 
 // Whether the samples have the stored CRC-32.
 fn has_crc(text: &[u8], crc: Field, samples: &[u8]) -> bool
-    requires { ⌜ Within (now text) crc ⌝ }
+    requires { ⌜ InText (now text) crc ⌝ }
 {
     let wanted = replay_lists::hex_number(text, crc);
     wanted.good && crc32::crc32(samples) as u64 == wanted.value
@@ -180,7 +180,7 @@ fn has_crc(text: &[u8], crc: Field, samples: &[u8]) -> bool
 
 // A key, or none where the field has no bytes.
 fn key_of(text: &[u8], field: Field) -> Key
-    requires { ⌜ Within (now text) field ⌝ }
+    requires { ⌜ InText (now text) field ⌝ }
 {
     let mut bytes = [0u8; 32];
     let decoded = replay_lists::hex_bytes(text, field, &mut bytes);
@@ -191,7 +191,7 @@ fn key_of(text: &[u8], field: Field) -> Key
 }
 
 fn lock_of(text: &[u8], key: Field, salt: Field) -> Lock
-    requires { ⌜ Within (now text) key × Within (now text) salt ⌝ }
+    requires { ⌜ InText (now text) key × InText (now text) salt ⌝ }
 {
     let stored = key_of(text, key);
     let key = stored.bytes;
@@ -213,7 +213,7 @@ fn is_done(answer: Answer) -> bool {
 
 // Whether the text is written as it is stored, or refused.
 fn writes(text: &[u8], case: Case, p: Picture, samples: &mut [u8], work: &mut [f32]) -> bool
-    requires { ⌜ Whole (now text) case × (length (now work) ≤ 1048576) ⌝ }
+    requires { ⌜ MarkCase (now text) case × (length (now work) ≤ 1048576) ⌝ }
 {
     let mut said = [0u8; 64];
     let decoded = replay_lists::hex_bytes(text, case.text, &mut said);
@@ -229,7 +229,7 @@ fn writes(text: &[u8], case: Case, p: Picture, samples: &mut [u8], work: &mut [f
 
 // Whether the text that was read is the one that was to be written.
 fn is_text(text: &[u8], field: Field, reading: Reading) -> bool
-    requires { ⌜ Within (now text) field ⌝ }
+    requires { ⌜ InText (now text) field ⌝ }
 {
     let read = reading.text;
     let mut wanted = [0u8; 32];
@@ -239,7 +239,7 @@ fn is_text(text: &[u8], field: Field, reading: Reading) -> bool
 
 // Whether the picture is read as is stored. The work area is used, whatever the record says.
 fn reads(text: &[u8], case: Case, p: Picture, samples: &[u8], work: &mut [f32]) -> bool
-    requires { ⌜ Whole (now text) case × (length (now work) ≤ 1048576) ⌝ }
+    requires { ⌜ MarkCase (now text) case × (length (now work) ≤ 1048576) ⌝ }
 {
     let key = key_of(text, case.with);
     lend(work);
@@ -254,7 +254,7 @@ fn reads(text: &[u8], case: Case, p: Picture, samples: &[u8], work: &mut [f32]) 
 }
 
 fn agrees_on(text: &[u8], case: Case, channels: usize, samples: &mut [u8], work: &mut [f32]) -> bool
-    requires { ⌜ Whole (now text) case × (length (now samples) ≤ 1048576) × (length (now work) ≤ 1048576) ⌝ }
+    requires { ⌜ MarkCase (now text) case × (length (now samples) ≤ 1048576) × (length (now work) ≤ 1048576) ⌝ }
 {
     let p = square(channels);
     draw(samples);
@@ -268,7 +268,7 @@ fn samples_in(channels: usize) -> usize
 }
 
 fn agrees(text: &[u8], case: Case, samples: &mut [u8], work: &mut [f32]) -> bool
-    requires { ⌜ Whole (now text) case × (length (now samples) ≡ 1048576) × (length (now work) ≤ 1048576) ⌝ }
+    requires { ⌜ MarkCase (now text) case × (length (now samples) ≡ 1048576) × (length (now work) ≤ 1048576) ⌝ }
 {
     let channels = replay_lists::hex_number(text, case.channels);
     let n = channels.value as usize;

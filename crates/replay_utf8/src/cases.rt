@@ -1,9 +1,9 @@
 // A list of strings, of at most eight bytes each, with the answer for each.
-ghost use Rattle.replay_lists.specs.Fields.{Within};
+ghost use Rattle.replay_lists.specs.Fields.{InText};
 use replay_lists::Field;
 
 fn agrees(text: &[u8], string: Field, stored: Field) -> bool
-    requires { ⌜ Within (now text) string × Within (now text) stored ⌝ }
+    requires { ⌜ InText (now text) string × InText (now text) stored ⌝ }
 {
     let mut bytes = [0u8; 8];
     let decoded = replay_lists::hex_bytes(text, string, &mut bytes);

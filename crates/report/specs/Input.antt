@@ -15,8 +15,8 @@ use Rattle.record.specs.Answers.{readAs}
 use Rattle.extract.specs.Extract.{blocks, votesReading}
 
 -- vote k is the f32 whose pattern is word k of the bytes, the lowest byte first
-unfoldable pub voteAt : List ℕ → ℕ → Float
-voteAt bytes k = ofBits binary32 (word bytes k)
+unfoldable pub voteFrom : List ℕ → ℕ → Float
+voteFrom bytes k = ofBits binary32 (word bytes k)
 
 abbrev pub noKey : Key
 noKey = record { given = false; bytes = replicate 32 0 }
@@ -24,4 +24,4 @@ noKey = record { given = false; bytes = replicate 32 0 }
 unfoldable pub bytesReading : List ℕ → Reading
 bytesReading bytes =
     cond (not (eqb (length bytes) 4096)) (readAs (refused (BadLength (length bytes))))
-    (votesReading (tab (voteAt bytes) blocks) noKey)
+    (votesReading (tab (voteFrom bytes) blocks) noKey)

@@ -29,26 +29,26 @@ use Rattle.record.specs.Record.{short, saltAt, lengthAt, textAt, outerAt, numbe
 use Rattle.record.specs.Answers.{readAs}
 use Rattle.record.specs.Laws.{sound-length}
 use Rattle.extract.specs.Extract.{blocks, goodVotes, votesOutcome, votesReading}
-use Rattle.report.specs.Input.{voteAt, noKey, bytesReading}
-use Rattle.report.specs.Line.{digit, digits, decimal, pairs, hex, room, lineAs, Lends}
+use Rattle.report.specs.Input.{voteFrom, noKey, bytesReading}
+use Rattle.report.specs.Line.{digit, decimalDigits, decimal, pairs, hex, lineRoom, lineAs, Lends}
 
 -- ---- numbers
 
-digits-last : (k n : ℕ) → n < 10 → digits (suc k) n ≡ digit n ∷ []
-unfolding digits
+digits-last : (k n : ℕ) → n < 10 → decimalDigits (suc k) n ≡ digit n ∷ []
+unfolding decimalDigits
 digits-last k n h = rw (lt-ltb n 10 h)
 
-digits-more : (k n : ℕ) → 10 ≤ n → digits (suc k) n ≡ digits k (n / 10) ++ (digit (n % 10) ∷ [])
-unfolding digits
+digits-more : (k n : ℕ) → 10 ≤ n → decimalDigits (suc k) n ≡ decimalDigits k (n / 10) ++ (digit (n % 10) ∷ [])
+unfolding decimalDigits
 digits-more k n h = rw (le-ltb n 10 h)
 
 -- room for more digits than there are makes no difference
-enough : (j k n : ℕ) → n < j → n < k → digits j n ≡ digits k n
+enough : (j k n : ℕ) → n < j → n < k → decimalDigits j n ≡ decimalDigits k n
 enough zero k n h g = absurd (omega arith)
 enough (suc j) zero n h g = absurd (omega arith)
 enough (suc j) (suc k) n h g = go (ltb n 10) refl (λ (l : 10 ≤ n). enough j k (n / 10) (omega arith) (omega arith))
   where
-    go : (t : Bool) → ltb n 10 ≡ t → (10 ≤ n → digits j (n / 10) ≡ digits k (n / 10)) → digits (suc j) n ≡ digits (suc k) n
+    go : (t : Bool) → ltb n 10 ≡ t → (10 ≤ n → decimalDigits j (n / 10) ≡ decimalDigits k (n / 10)) → decimalDigits (suc j) n ≡ decimalDigits (suc k) n
     go true t same = let l = ltb-true n 10 t in digits-last j n l ∙ sym (digits-last k n l)
     go false t same = let l = ltb-false n 10 t in rw (digits-more j n l, digits-more k n l, same l)
 
@@ -88,21 +88,21 @@ length-hex (b ∷ bs) m h g = omega (arith, length-pairs (b ∷ bs))
 -- ---- what was read
 
 -- a reading has room for 32 bytes, and its text fits
-pub record Fits (r : Reading) : Type 0 where
-  pub whole : length (r .text) ≡ short .room
-  pub within : r .length ≤ short .room
+pub record FitsLine (r : Reading) : Type 0 where
+  pub line-whole : length (r .text) ≡ short .room
+  pub line-within : r .length ≤ short .room
 
 record Short (o : Outcome) : Type 0 where
-  fits : Fits (readAs o)
+  fits : FitsLine (readAs o)
 
 none : (r : Refusal) → Short (refused r)
-none r = record { fits = record { whole = refl; within = omega arith } }
+none r = record { fits = record { line-whole = refl; line-within = omega arith } }
 
 text : (bs : List ℕ) → length bs ≤ short .room → Short (gives bs)
 text bs h = record {
   fits = record {
-    whole = simp (length-append, length-replicate) (omega arith);
-    within = h;
+    line-whole = simp (length-append, length-replicate) (omega arith);
+    line-within = h;
   };
 }
 
@@ -134,17 +134,17 @@ votes-short votes key =
     either (not (eqb (length votes) blocks)) _ _ (none (BadLength (length votes)))
     (either (ltb (goodVotes votes) blocks) _ _ (none (BadVote (goodVotes votes))) (parsed-short _ key))
 
-pub bytes-fit : (bytes : List ℕ) → Fits (bytesReading bytes)
+pub bytes-fit : (bytes : List ℕ) → FitsLine (bytesReading bytes)
 unfolding bytesReading votesReading
 bytes-fit bytes = go (eqb (length bytes) 4096)
   where
-    go : (t : Bool) → Fits (cond (not t) (readAs (refused (BadLength (length bytes)))) (votesReading (tab (voteAt bytes) blocks) noKey))
-    go true = votes-short (tab (voteAt bytes) blocks) noKey .fits
+    go : (t : Bool) → FitsLine (cond (not t) (readAs (refused (BadLength (length bytes)))) (votesReading (tab (voteFrom bytes) blocks) noKey))
+    go true = votes-short (tab (voteFrom bytes) blocks) noKey .fits
     go false = none (BadLength (length bytes)) .fits
 
 -- ---- the code's line
 
 pub lends : (bs : List ℕ) → Lends (lineAs bs)
 lends bs =
-    let rest : List ℕ = replicate (room - length bs) 0 in
+    let rest : List ℕ = replicate (lineRoom - length bs) 0 in
     (omega (arith, length-append bs rest), ap length (sym (take-at bs rest (length bs) refl)))

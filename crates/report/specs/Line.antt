@@ -26,13 +26,13 @@ unfoldable pub digit : ℕ → ℕ
 digit d = cond (ltb d 10) (code "0" + d) (code "a" + (d - 10))
 
 -- the digits of a number that has at most k of them: the last behind those of the tenth, no zero in front
-unfoldable pub digits : ℕ → ℕ → List ℕ
-digits zero n = []
-digits (suc k) n = let more = digits k (n / 10) ++ (digit (n % 10) ∷ []) in cond (ltb n 10) (digit n ∷ []) more
+unfoldable pub decimalDigits : ℕ → ℕ → List ℕ
+decimalDigits zero n = []
+decimalDigits (suc k) n = let more = decimalDigits k (n / 10) ++ (digit (n % 10) ∷ []) in cond (ltb n 10) (digit n ∷ []) more
 
 -- a number n has at most n + 1 digits
 unfoldable pub decimal : ℕ → List ℕ
-decimal n = digits (suc n) n
+decimal n = decimalDigits (suc n) n
 
 -- two digits a byte
 unfoldable pub pairs : List ℕ → List ℕ
@@ -61,11 +61,11 @@ lineOf reading = answerLine reading (reading .answer)
 
 -- ---- the code's line: zeros behind it. The longest is "text 32 ", 64 digits and the end.
 
-abbrev pub room : ℕ
-room = 73
+abbrev pub lineRoom : ℕ
+lineRoom = 73
 
 abbrev pub lineAs : List ℕ → Line
-lineAs bs = record { bytes = bs ++ replicate (room - length bs) 0; length = length bs }
+lineAs bs = record { bytes = bs ++ replicate (lineRoom - length bs) 0; length = length bs }
 
 -- the first `length` bytes are there to be lent
 abbrev pub Lends : Line → Type 0

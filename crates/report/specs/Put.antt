@@ -7,13 +7,9 @@ use native.Mathlib.Nat.{zero-add}
 use native.Mathlib.Omega.{arith}
 use lib.ListN.{length, take, drop, set, replicate, length-append}
 use lib.Seq.{paste, paste-zero, take-length, take-paste, drop-paste, drop-drop, set-split, append-snoc}
-use Rattle.record.specs.Laws.{pasted}
-use Rattle.report.specs.Line.{room, lineAs}
-
--- bs stands in `after` from place `at` on, the rest is as it was `before`, and the place behind bs is `next`
-pub record Puts (bs before : List ℕ) (at : ℕ) (after : List ℕ) (next : ℕ) : Type 0 where
-  pub place : next ≡ at + length bs
-  pub bytes : after ≡ paste before at bs (length bs)
+use Rattle.record.specs.Laws.{pasted-over}
+use Rattle.report.specs.Line.{lineRoom, lineAs}
+use Rattle.report.specs.Puts.{Puts}
 
 pub puts-none : (before : List ℕ) (at : ℕ) → Puts [] before at before at
 puts-none before at = record { place = omega arith; bytes = paste-zero before at [] }
@@ -41,11 +37,11 @@ module _ {a b before mid after : List ℕ} {at m next : ℕ} where
 
 -- five pieces put over zeros, one behind the other, are a line
 module _ {a b c d e o₁ o₂ o₃ o₄ o₅ : List ℕ} {p₁ p₂ p₃ p₄ p₅ : ℕ} where
-  pub puts-line : length a + length b + length c + length d + length e ≤ room → Puts a (replicate room 0) 0 o₁ p₁ → Puts b o₁ p₁ o₂ p₂ → Puts c o₂ p₂ o₃ p₃ → Puts d o₃ p₃ o₄ p₄ → Puts e o₄ p₄ o₅ p₅ → record { bytes = o₅; length = p₅ } ≡ lineAs (a ++ b ++ c ++ d ++ e)
+  pub puts-line : length a + length b + length c + length d + length e ≤ lineRoom → Puts a (replicate lineRoom 0) 0 o₁ p₁ → Puts b o₁ p₁ o₂ p₂ → Puts c o₂ p₂ o₃ p₃ → Puts d o₃ p₃ o₄ p₄ → Puts e o₄ p₄ o₅ p₅ → record { bytes = o₅; length = p₅ } ≡ lineAs (a ++ b ++ c ++ d ++ e)
   puts-line h A B C D E =
       let two = puts-more (omega arith) A B in
       let three = puts-more (simp length-append (omega arith)) two C in
       let four = puts-more (simp length-append (omega arith)) three D in
       let all = puts-more (simp length-append (omega arith)) four E in
-      let fits : length (a ++ b ++ c ++ d ++ e) ≤ room = simp length-append (omega arith) in
-      rw (all .place, all .bytes, pasted [] (a ++ b ++ c ++ d ++ e) 0 room refl fits, zero-add (length (a ++ b ++ c ++ d ++ e)))
+      let fits : length (a ++ b ++ c ++ d ++ e) ≤ lineRoom = simp length-append (omega arith) in
+      rw (all .place, all .bytes, pasted-over [] (a ++ b ++ c ++ d ++ e) 0 lineRoom refl fits, zero-add (length (a ++ b ++ c ++ d ++ e)))

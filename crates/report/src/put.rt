@@ -5,7 +5,7 @@ ghost use mathlib.Core.Path.{_≡_};
 ghost use mathlib.Core.List.{[], _∷_};
 ghost use lib.ListN.{length};
 ghost use Rattle.report.specs.Line.{digit, decimal, pairs, hex};
-ghost use Rattle.report.specs.Put.{Puts};
+ghost use Rattle.report.specs.Puts.{Puts};
 
 pub fn bytes(from: &[u8], out: &mut [u8], at: usize) -> usize
     requires { ⌜ at + length (now from) ≤ length (now out) ⌝ }

@@ -16,7 +16,7 @@ use Rattle.picture.specs.declared.Picture.{Picture}
 use Rattle.admission.specs.Admission.{readAdmission}
 use Rattle.carrier.specs.Carrier.{cleared, markedSamples, pictureVotes}
 use Rattle.extract.specs.Extract.{textOf}
-use Rattle.resilient.specs.Resilient.{ifDone, bitsOf, writeAnswer, writtenOf, readingFrom, readingOf}
+use Rattle.resilient.specs.Resilient.{ifDone, textBits, writeAnswer, writtenOf, readingFrom, readingOf}
 
 module _ {A : Type 0} (new lent : A) where
   if-done : (a : Answer) → a ≡ Done → ifDone a new lent ≡ new
@@ -33,7 +33,7 @@ module _ {A : Type 0} (new lent : A) where
 
 module _ (text : List ℕ) (lock : Lock) (p : Picture) (samples : List ℕ) (work : List Float) where
   pub written-done : writeAnswer text lock p (length samples) (length work) ≡ Done
-      → (writtenOf text lock p samples work .samples ≡ markedSamples p (bitsOf text lock) samples) × (writtenOf text lock p samples work .work ≡ cleared work)
+      → (writtenOf text lock p samples work .samples ≡ markedSamples p (textBits text lock) samples) × (writtenOf text lock p samples work .work ≡ cleared work)
   unfolding writtenOf
   written-done e = (if-done _ _ _ e, if-done _ _ _ e)
 

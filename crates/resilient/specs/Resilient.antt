@@ -28,8 +28,8 @@ ifDone (Refused r) new lent = lent
 -- ---- writing
 
 -- the bit that each block carries
-unfoldable pub bitsOf : List ℕ → Lock → List ℕ
-bitsOf text lock = blockBits 748 (encodeOf (recordOf short text lock))
+unfoldable pub textBits : List ℕ → Lock → List ℕ
+textBits text lock = blockBits 748 (encodeOf (recordOf short text lock))
 
 pub record Written : Type 0 where
   pub answer : Answer
@@ -43,7 +43,7 @@ writeAnswer text lock p samples work = first (builtAs (builtOf short text lock) 
 unfoldable pub writtenOf : List ℕ → Lock → Picture → List ℕ → List Float → Written
 writtenOf text lock p samples work =
     let a = writeAnswer text lock p (length samples) (length work) in
-    record { answer = a; samples = ifDone a (markedSamples p (bitsOf text lock) samples) samples; work = ifDone a (cleared work) work }
+    record { answer = a; samples = ifDone a (markedSamples p (textBits text lock) samples) samples; work = ifDone a (cleared work) work }
 
 -- ---- reading
 

@@ -11,8 +11,8 @@ use Rattle.admission.specs.Admission.{roomOf}
 use Rattle.admission.specs.Admitted.{Admitted}
 
 module _ (parts : ℕ) (p : Picture) (samples : List ℕ) (work : ℕ) (a : Admitted parts p (length samples) work) where
-  pub sized : 0 < p .width → 0 < p .height → Sized (p .width) (p .height) (p .channels) samples
-  sized w h =
+  pub admitted-sized : 0 < p .width → 0 < p .height → Sized (p .width) (p .height) (p .channels) samples
+  admitted-sized w h =
       let turned : p .width * p .channels * p .height ≡ p .width * p .height * p .channels = mul-assoc (p .width) (p .channels) (p .height) ∙ (ap (λ (n : ℕ). p .width * n) (mul-comm (p .channels) (p .height)) ∙ sym (mul-assoc (p .width) (p .height) (p .channels))) in
       record {
         wide = w;
@@ -25,6 +25,6 @@ module _ (parts : ℕ) (p : Picture) (samples : List ℕ) (work : ℕ) (a : Admi
       }
 
   -- and room for a plane
-  pub plane-room : 1 ≤ parts → 65536 ≤ work
+  pub admitted-room : 1 ≤ parts → 65536 ≤ work
   unfolding roomOf
-  plane-room h = omega (arith, a .room, mul-le-mul-right (65536 + p .width * p .height) h)
+  admitted-room h = omega (arith, a .room, mul-le-mul-right (65536 + p .width * p .height) h)

@@ -28,7 +28,7 @@ use Rattle.carrier.specs.Carrier.{markedSamples, pictureVotes}
 use Rattle.extract.specs.Extract.{blocks, votesReading}
 use Rattle.extract.specs.Theorems.{all-good, reads-on}
 use Rattle.resilient.specs.Resilient.{writeAnswer, writtenOf, readingOf}
-use Rattle.resilient.specs.Sized.{sized}
+use Rattle.resilient.specs.Sized.{admitted-sized}
 use Rattle.resilient.specs.Left.{written-done, written-refused, read-done}
 
 -- ---- writing
@@ -48,7 +48,7 @@ alpha-kept text lock p samples work four y x Y X = go (writeAnswer text lock p (
     go : (a : Answer) → writeAnswer text lock p (length samples) (length work) ≡ a → at (writtenOf text lock p samples work .samples) ≡ at samples
     go Done e =
         let may = write-admitted p (length samples) (length work) (first-done _ _ e .1) in
-        let s : Sized (p .width) (p .height) 4 samples = subst (λ (c : ℕ). Sized (p .width) (p .height) c samples) four (sized 2 p samples (length work) (may .2) (omega (arith, may .0)) (omega (arith, may .1))) in
+        let s : Sized (p .width) (p .height) 4 samples = subst (λ (c : ℕ). Sized (p .width) (p .height) c samples) four (admitted-sized 2 p samples (length work) (may .2) (omega (arith, may .0)) (omega (arith, may .1))) in
         ap at (written-done text lock p samples work e .0) ∙ (rw four (fourth-kept (p .width) (p .height) _ samples s y x Y X))
     go (Refused r) e = ap at (written-refused text lock p samples work r e .0)
 

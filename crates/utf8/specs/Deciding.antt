@@ -9,7 +9,7 @@ use native.Mathlib.Omega.{arith}
 use lib.Dec.{ltb}
 use borrow.Author.Tests.{ltb-true}
 use Rattle.utf8.specs.Abnf.{Rule, Of, Each, none, more, *⟨_⟩}
-use Rattle.utf8.specs.Forms.{Range, _‥_, Form, forms, within, never, following, accepts}
+use Rattle.utf8.specs.Forms.{Range, _‥_, Form, forms, inRange, never, following, accepts}
 use Rattle.utf8.specs.Strings.{and-true, lies-from, misses, Fits, done, next, Some, here, there, form-of, of-form}
 
 pub each : {A : Type 0} {P Q : A → Type 0} → ((x : A) → P x → Q x) → {xs : List A} → Each P xs → Each Q xs
@@ -31,7 +31,7 @@ abbrev pub distinct : List Form → Bool
 distinct [] = true
 distinct (f ∷ fs) = fresh (f .lead) fs && distinct fs
 
-not-both : (r s : Range) (b : ℕ) → apart r s ≡ true → within s b ≡ true → within r b ≡ false
+not-both : (r s : Range) (b : ℕ) → apart r s ≡ true → inRange s b ≡ true → inRange r b ≡ false
 not-both (a ‥ z) (c ‥ y) b t h =
     let k = lies-from (c ‥ y) b h in
     misses (a ‥ z) b (λ j. ⊎-elim (λ e. omega (arith, ltb-true z c e)) (λ e. omega (arith, ltb-true y a e)) (or-true (ltb z c) (ltb y a) t))
@@ -40,7 +40,7 @@ not-both (a ‥ z) (c ‥ y) b t h =
     or-true true q e = inl refl
     or-true false q e = inr e
 
-missed : (r : Range) {b : ℕ} {c : List ℕ} {fs : List Form} → fresh r fs ≡ true → Some fs (b ∷ c) → within r b ≡ false
+missed : (r : Range) {b : ℕ} {c : List ℕ} {fs : List Form} → fresh r fs ≡ true → Some fs (b ∷ c) → inRange r b ≡ false
 missed r {b} t (here {f} {fs} (next h d)) = not-both r (f .lead) b (and-true (apart r (f .lead)) (fresh r fs) t .0) h
 missed r t (there {f} {fs} d) = missed r (and-true (apart r (f .lead)) (fresh r fs) t .1) d
 
@@ -59,9 +59,9 @@ some-char t (there {f} {fs} d) = let k = and-true (fresh (f .lead) fs) (distinct
 following-some : (fs : List Form) (b : ℕ) {c : List ℕ} → Fits (following fs b) c → Some fs (b ∷ c)
 unfolding following
 following-some [] b (next {b = e} h done) = absurd (omega (arith, lies-from never e h))
-following-some (f ∷ fs) b {c} d = pick (within (f .lead) b) refl d (following-some fs b)
+following-some (f ∷ fs) b {c} d = pick (inRange (f .lead) b) refl d (following-some fs b)
   where
-    pick : (t : Bool) → within (f .lead) b ≡ t → Fits (cond t (f .rest) (following fs b)) c → (Fits (following fs b) c → Some fs (b ∷ c)) → Some (f ∷ fs) (b ∷ c)
+    pick : (t : Bool) → inRange (f .lead) b ≡ t → Fits (cond t (f .rest) (following fs b)) c → (Fits (following fs b) c → Some fs (b ∷ c)) → Some (f ∷ fs) (b ∷ c)
     pick true e d rest = here (next e d)
     pick false e d rest = there (rest d)
 
@@ -86,7 +86,7 @@ sound fs [] (b ∷ bs) e =
     let k = sound fs (following fs b) bs e in
     ([], (b ∷ k .0) ∷ k .1, done, more (char (k .2)) (k .3), ap (λ (x : List ℕ). b ∷ x) (k .4))
 sound fs (r ∷ due) (b ∷ bs) e =
-    let h = and-true (within r b) (accepts fs due bs) e in
+    let h = and-true (inRange r b) (accepts fs due bs) e in
     let k = sound fs due bs (h .1) in
     (b ∷ k .0, k .1, next (h .0) (k .2), k .3, ap (λ (x : List ℕ). b ∷ x) (k .4))
 

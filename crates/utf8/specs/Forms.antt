@@ -9,8 +9,8 @@ infix 80 _‥_
 pub data Range : Type 0 where
   _‥_ : ℕ → ℕ → Range
 
-unfoldable pub within : Range → ℕ → Bool
-within (a ‥ z) b = leb a b && leb b z
+unfoldable pub inRange : Range → ℕ → Bool
+inRange (a ‥ z) b = leb a b && leb b z
 
 -- the ranges of a character's bytes: of the first, and of those that follow
 pub record Form : Type 0 where
@@ -37,11 +37,11 @@ never = 1 ‥ 0
 -- what has to follow byte b at the start of a character: the rest of the first form that starts with it, and where there is none, a byte that there isn't
 unfoldable pub following : List Form → ℕ → List Range
 following [] b = never ∷ []
-following (f ∷ fs) b = cond (within (f .lead) b) (f .rest) (following fs b)
+following (f ∷ fs) b = cond (inRange (f .lead) b) (f .rest) (following fs b)
 
 -- the bytes are a text of these forms, where `due` has to come first, of a character that has begun
 unfoldable pub accepts : List Form → List Range → List ℕ → Bool
 accepts fs [] [] = true
 accepts fs (r ∷ due) [] = false
 accepts fs [] (b ∷ bs) = accepts fs (following fs b) bs
-accepts fs (r ∷ due) (b ∷ bs) = within r b && accepts fs due bs
+accepts fs (r ∷ due) (b ∷ bs) = inRange r b && accepts fs due bs

@@ -55,8 +55,8 @@ unfoldable pub above : ℕ → ℕ
 above v = v div 64
 
 -- the table: 0xxxxxxx, 110xxxxx, 1110xxxx, 11110xxx, and as many tails as the row has
-unfoldable pub encodeOf : ℕ → List ℕ
-encodeOf v =
+unfoldable pub encodedScalar : ℕ → List ℕ
+encodedScalar v =
     cond (leb v 0x7F) (v ∷ [])
     (cond (leb v 0x7FF) ((0xC0 + above v) ∷ tail v ∷ [])
     (cond (leb v 0xFFFF) ((0xE0 + above (above v)) ∷ tail (above v) ∷ tail v ∷ [])

@@ -9,7 +9,7 @@ use native.Mathlib.Omega.{arith}
 use lib.Dec.{leb}
 use borrow.Author.Tests.{le-leb, lt-leb, leb-true, leb-false}
 use Rattle.utf8.specs.Abnf.{%_-_, _·_, 2⟨_⟩, Of, byte, joined, first, second}
-use Rattle.utf8.specs.Rfc3629.{UTF8-tail, UTF8-3, UTF8-4, UTF8-char, Scalar, low, high, tail, above, encodeOf}
+use Rattle.utf8.specs.Rfc3629.{UTF8-tail, UTF8-3, UTF8-4, UTF8-char, Scalar, low, high, tail, above, encodedScalar}
 
 -- ---- the table's rows
 
@@ -19,8 +19,8 @@ data Row (v : ℕ) : List ℕ → Type 0 where
   three : 0x7FF < v → v ≤ 0xFFFF → Row v ((0xE0 + above (above v)) ∷ tail (above v) ∷ tail v ∷ [])
   four : 0xFFFF < v → Row v ((0xF0 + above (above (above v))) ∷ tail (above (above v)) ∷ tail (above v) ∷ tail v ∷ [])
 
-encodes : {v : ℕ} {c : List ℕ} → Row v c → encodeOf v ≡ c
-unfolding encodeOf
+encodes : {v : ℕ} {c : List ℕ} → Row v c → encodedScalar v ≡ c
+unfolding encodedScalar
 encodes {v} (one h) = rw (le-leb v 0x7F h)
 encodes {v} (two l h) = rw (lt-leb v 0x7F l, le-leb v 0x7FF h)
 encodes {v} (three l h) = let k : 0x7F < v = omega arith in rw (lt-leb v 0x7F k, lt-leb v 0x7FF l, le-leb v 0xFFFF h)
@@ -33,14 +33,14 @@ at-most v n = go (leb v n) refl
     go true e = inl (leb-true v n e)
     go false e = inr (leb-false v n e)
 
-row : (v : ℕ) → Row v (encodeOf v)
+row : (v : ℕ) → Row v (encodedScalar v)
 row v =
     ⊎-elim (λ h. of (one h)) (λ l.
     ⊎-elim (λ h. of (two l h)) (λ m.
     ⊎-elim (λ h. of (three m h)) (λ n. of (four n))
     (at-most v 0xFFFF)) (at-most v 0x7FF)) (at-most v 0x7F)
   where
-    of : {c : List ℕ} → Row v c → Row v (encodeOf v)
+    of : {c : List ℕ} → Row v c → Row v (encodedScalar v)
     of r = rw (encodes r) r
 
 -- ---- from bytes to the value
@@ -70,18 +70,18 @@ unfolding _⊕_ tail
 tail-of x b h = omega arith
 
 -- bytes that have the form of a row are that row of their value; each `let` puts a tail's bounds where `simp` looks for them
-bytes-two : (a b : ℕ) → let v = valueOf (a ∷ b ∷ []) in (0xC0 ≤ a) × Tail b × (0x7F < v) × (v ≤ 0x7FF) → encodeOf v ≡ a ∷ b ∷ []
+bytes-two : (a b : ℕ) → let v = valueOf (a ∷ b ∷ []) in (0xC0 ≤ a) × Tail b × (0x7F < v) × (v ≤ 0x7FF) → encodedScalar v ≡ a ∷ b ∷ []
 bytes-two a b h = let hb = h .1 in encodes (two (h .2) (h .3)) ∙ simp (above-of, tail-of) (ap (λ (x : ℕ). x ∷ b ∷ []) (omega arith))
 
-bytes-three : (a b c : ℕ) → let v = valueOf (a ∷ b ∷ c ∷ []) in (0xE0 ≤ a) × Tail b × Tail c × (0x7FF < v) × (v ≤ 0xFFFF) → encodeOf v ≡ a ∷ b ∷ c ∷ []
+bytes-three : (a b c : ℕ) → let v = valueOf (a ∷ b ∷ c ∷ []) in (0xE0 ≤ a) × Tail b × Tail c × (0x7FF < v) × (v ≤ 0xFFFF) → encodedScalar v ≡ a ∷ b ∷ c ∷ []
 bytes-three a b c h = let hb = h .1 in let hc = h .2 in encodes (three (h .3) (h .4)) ∙ simp (above-of, tail-of) (ap (λ (x : ℕ). x ∷ b ∷ c ∷ []) (omega arith))
 
-bytes-four : (a b c d : ℕ) → let v = valueOf (a ∷ b ∷ c ∷ d ∷ []) in (0xF0 ≤ a) × Tail b × Tail c × Tail d × (0xFFFF < v) → encodeOf v ≡ a ∷ b ∷ c ∷ d ∷ []
+bytes-four : (a b c d : ℕ) → let v = valueOf (a ∷ b ∷ c ∷ d ∷ []) in (0xF0 ≤ a) × Tail b × Tail c × Tail d × (0xFFFF < v) → encodedScalar v ≡ a ∷ b ∷ c ∷ d ∷ []
 bytes-four a b c d h = let hb = h .1 in let hc = h .2 in let hd = h .3 in encodes (four (h .4)) ∙ simp (above-of, tail-of) (ap (λ (x : ℕ). x ∷ b ∷ c ∷ d ∷ []) (omega arith))
 
 -- c is the encoding of a scalar value, that of its free bits
 abbrev Encoded : List ℕ → Type 0
-Encoded c = Scalar (valueOf c) × (encodeOf (valueOf c) ≡ c)
+Encoded c = Scalar (valueOf c) × (encodedScalar (valueOf c) ≡ c)
 
 encoded-3 : {c : List ℕ} → Of UTF8-3 c → Encoded c
 unfolding _⊕_
@@ -143,9 +143,9 @@ character {v} (high j k) (four l) =
 -- ---- the theorem
 
 -- a character is the encoding of a scalar value
-pub scalar-char : (c : List ℕ) → Of UTF8-char c ↔ ((v : ℕ) × Scalar v × (encodeOf v ≡ c))
+pub scalar-char : (c : List ℕ) → Of UTF8-char c ↔ ((v : ℕ) × Scalar v × (encodedScalar v ≡ c))
 scalar-char c = (λ d. (valueOf c, encoded d .0, encoded d .1), λ k. subst (Of UTF8-char) (k .2) (character (k .1) (row (k .0))))
 
 -- of one alone
-pub one-value : (v w : ℕ) → encodeOf v ≡ encodeOf w → v ≡ w
+pub one-value : (v w : ℕ) → encodedScalar v ≡ encodedScalar w → v ≡ w
 one-value v w e = sym (value (row v)) ∙ (ap valueOf e ∙ value (row w))

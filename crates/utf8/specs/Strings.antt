@@ -7,7 +7,7 @@ use Prim.Native.Nat.{ℕ, _≤_}
 use lib.Dec.{leb}
 use borrow.Author.Tests.{leb-true, le-leb}
 use Rattle.utf8.specs.Abnf.{Rule, %_-_, _·_, _/_, Of, byte, joined, first, second}
-use Rattle.utf8.specs.Forms.{Range, _‥_, Form, ranges, join, forms, within}
+use Rattle.utf8.specs.Forms.{Range, _‥_, Form, ranges, join, forms, inRange}
 
 pub and-true : (a b : Bool) → (a && b) ≡ true → (a ≡ true) × (b ≡ true)
 and-true true b e = (refl, e)
@@ -16,25 +16,25 @@ and-true false b e = absurd (false≢true e)
 abbrev pub In : Range → ℕ → Type 0
 In (a ‥ z) b = (a ≤ b) × (b ≤ z)
 
-pub lies : (r : Range) (b : ℕ) → In r b → within r b ≡ true
-unfolding within
+pub lies : (r : Range) (b : ℕ) → In r b → inRange r b ≡ true
+unfolding inRange
 lies (a ‥ z) b h = rw (le-leb a b (h .0), le-leb b z (h .1))
 
-pub lies-from : (r : Range) (b : ℕ) → within r b ≡ true → In r b
-unfolding within
+pub lies-from : (r : Range) (b : ℕ) → inRange r b ≡ true → In r b
+unfolding inRange
 lies-from (a ‥ z) b e = let h = and-true (leb a b) (leb b z) e in (leb-true a b (h .0), leb-true b z (h .1))
 
-pub misses : (r : Range) (b : ℕ) → (In r b → ⊥) → within r b ≡ false
-misses r b h = go (within r b) refl
+pub misses : (r : Range) (b : ℕ) → (In r b → ⊥) → inRange r b ≡ false
+misses r b h = go (inRange r b) refl
   where
-    go : (t : Bool) → within r b ≡ t → t ≡ false
+    go : (t : Bool) → inRange r b ≡ t → t ≡ false
     go true e = absurd (h (lies-from r b e))
     go false e = refl
 
 -- each byte lies in its range
 pub data Fits : List Range → List ℕ → Type 0 where
   done : Fits [] []
-  next : {r : Range} {b : ℕ} {rs : List Range} {bs : List ℕ} → within r b ≡ true → Fits rs bs → Fits (r ∷ rs) (b ∷ bs)
+  next : {r : Range} {b : ℕ} {rs : List Range} {bs : List ℕ} → inRange r b ≡ true → Fits rs bs → Fits (r ∷ rs) (b ∷ bs)
 
 -- one of the forms fits
 pub data Some : List Form → List ℕ → Type 0 where

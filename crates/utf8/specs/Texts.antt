@@ -9,7 +9,7 @@ use native.Mathlib.Nat.{le-trans}
 use native.Mathlib.Omega.{arith}
 use Rattle.utf8.specs.Abnf.{%_-_, _·_, 2⟨_⟩, 3⟨_⟩, Of, byte, joined, first, second, Each, none, more, *⟨_⟩}
 use Rattle.utf8.specs.Forms.{forms}
-use Rattle.utf8.specs.Rfc3629.{UTF8-tail, UTF8-3, UTF8-4, UTF8-char, UTF8-octets, wellFormed, Scalar, encodeOf}
+use Rattle.utf8.specs.Rfc3629.{UTF8-tail, UTF8-3, UTF8-4, UTF8-char, UTF8-octets, wellFormed, Scalar, encodedScalar}
 use Rattle.utf8.specs.Counted.{counted-char, counted}
 use Rattle.utf8.specs.Deciding.{distinct, each, decides, one-division}
 use Rattle.utf8.specs.Scalars.{scalar-char, one-value}
@@ -30,29 +30,29 @@ one-reading = one-division UTF8-char utf8-distinct
 
 -- ---- section 3: the same texts are the encodings of scalar values, one after the other, and of one list of them
 
-values : {cs : List (List ℕ)} → Each (Of UTF8-char) cs → (vs : List ℕ) × Each Scalar vs × (map encodeOf vs ≡ cs)
+values : {cs : List (List ℕ)} → Each (Of UTF8-char) cs → (vs : List ℕ) × Each Scalar vs × (map encodedScalar vs ≡ cs)
 values none = ([], none, refl)
 values (more {x} d m) =
     let k = scalar-char x .0 d in
     let ks = values m in
     (k .0 ∷ ks .0, more (k .1) (ks .1), ap₂ (λ (c : List ℕ) (cs : List (List ℕ)). c ∷ cs) (k .2) (ks .2))
 
-characters : {vs : List ℕ} → Each Scalar vs → Each (Of UTF8-char) (map encodeOf vs)
+characters : {vs : List ℕ} → Each Scalar vs → Each (Of UTF8-char) (map encodedScalar vs)
 characters none = none
-characters (more {x} s m) = more (scalar-char (encodeOf x) .1 (x, s, refl)) (characters m)
+characters (more {x} s m) = more (scalar-char (encodedScalar x) .1 (x, s, refl)) (characters m)
 
-pub scalar-text : (bs : List ℕ) → UTF8-octets bs ↔ ((vs : List ℕ) × Each Scalar vs × (flatten (map encodeOf vs) ≡ bs))
+pub scalar-text : (bs : List ℕ) → UTF8-octets bs ↔ ((vs : List ℕ) × Each Scalar vs × (flatten (map encodedScalar vs) ≡ bs))
 scalar-text bs =
-    (λ d. let k = values (d .1) in (k .0, k .1, ap flatten (k .2) ∙ d .2), λ k. (map encodeOf (k .0), characters (k .1), k .2))
+    (λ d. let k = values (d .1) in (k .0, k .1, ap flatten (k .2) ∙ d .2), λ k. (map encodedScalar (k .0), characters (k .1), k .2))
 
-same-values : (vs ws : List ℕ) → map encodeOf vs ≡ map encodeOf ws → vs ≡ ws
+same-values : (vs ws : List ℕ) → map encodedScalar vs ≡ map encodedScalar ws → vs ≡ ws
 same-values [] [] e = refl
 same-values [] (w ∷ ws) e = cc
 same-values (v ∷ vs) [] e = cc
 same-values (v ∷ vs) (w ∷ ws) e =
     ap₂ (λ (x : ℕ) (xs : List ℕ). x ∷ xs) (one-value v w (head-eq-of-cons-eq e)) (same-values vs ws (tail-eq-of-cons-eq e))
 
-pub one-list : {vs ws : List ℕ} → Each Scalar vs → Each Scalar ws → flatten (map encodeOf vs) ≡ flatten (map encodeOf ws) → vs ≡ ws
+pub one-list : {vs ws : List ℕ} → Each Scalar vs → Each Scalar ws → flatten (map encodedScalar vs) ≡ flatten (map encodedScalar ws) → vs ≡ ws
 one-list {vs} {ws} s t e = same-values vs ws (one-reading (characters s) (characters t) e)
 
 -- ---- the check on writing

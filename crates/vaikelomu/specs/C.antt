@@ -11,17 +11,17 @@ use Rattle.extract.specs.Extract.{votesReading}
 use Rattle.resilient.specs.Resilient.{Written, writtenOf, Read, readingOf}
 
 -- C's flag: every number but 0 says yes
-abbrev pub yes : ℕ → Bool
-yes flag = not (eqb flag 0)
+abbrev pub isSet : ℕ → Bool
+isSet flag = not (eqb flag 0)
 
 abbrev pub pictureOf : ℕ → ℕ → ℕ → Picture
 pictureOf width height channels = record { width = width; height = height; channels = channels }
 
 abbrev pub writtenFor : List ℕ → ℕ → ℕ → ℕ → List ℕ → ℕ → List ℕ → List ℕ → List Float → Written
-writtenFor samples width height channels text locked key salt work = writtenOf text (lockFrom (yes locked) key salt) (pictureOf width height channels) samples work
+writtenFor samples width height channels text locked key salt work = writtenOf text (lockFrom (isSet locked) key salt) (pictureOf width height channels) samples work
 
 abbrev pub readFor : List ℕ → ℕ → ℕ → ℕ → ℕ → List ℕ → List Float → Read
-readFor samples width height channels keyed key work = readingOf (keyFrom (yes keyed) key) (pictureOf width height channels) samples work
+readFor samples width height channels keyed key work = readingOf (keyFrom (isSet keyed) key) (pictureOf width height channels) samples work
 
 abbrev pub votesFor : List Float → ℕ → List ℕ → Reading
-votesFor votes keyed key = votesReading votes (keyFrom (yes keyed) key)
+votesFor votes keyed key = votesReading votes (keyFrom (isSet keyed) key)

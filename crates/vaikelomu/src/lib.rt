@@ -8,7 +8,7 @@ use record::Reading;
 ghost use mathlib.Core.Path.{_≡_};
 ghost use Rattle.refusal.specs.Numbers.{codeOf, givenFor};
 ghost use Rattle.record.specs.Given.{lockFrom, keyFrom};
-ghost use Rattle.vaikelomu.specs.C.{yes, pictureOf, writtenFor, readFor, votesFor};
+ghost use Rattle.vaikelomu.specs.C.{isSet, pictureOf, writtenFor, readFor, votesFor};
 
 fn picture_of(width: usize, height: usize, channels: usize) -> Picture
     ensures { λ r. ⌜ r ≡ pictureOf width height channels ⌝ }
@@ -22,7 +22,7 @@ fn picture_of(width: usize, height: usize, channels: usize) -> Picture
 
 // A flag is a byte, since C may lend a `bool` that is neither true nor false.
 fn lock_of(locked: u8, key: &[u8; 32], salt: &[u8; 4]) -> Lock
-    ensures { λ r. ⌜ r ≡ lockFrom (yes locked) (now (key .entry)) (now (salt .entry)) ⌝ }
+    ensures { λ r. ⌜ r ≡ lockFrom (isSet locked) (now (key .entry)) (now (salt .entry)) ⌝ }
 {
     Lock {
         given: locked != 0,
@@ -32,7 +32,7 @@ fn lock_of(locked: u8, key: &[u8; 32], salt: &[u8; 4]) -> Lock
 }
 
 fn key_of(keyed: u8, key: &[u8; 32]) -> Key
-    ensures { λ r. ⌜ r ≡ keyFrom (yes keyed) (now (key .entry)) ⌝ }
+    ensures { λ r. ⌜ r ≡ keyFrom (isSet keyed) (now (key .entry)) ⌝ }
 {
     Key {
         given: keyed != 0,

@@ -8,7 +8,7 @@ use lib.Dec.{ltb}
 use borrow.Author.Needs.{needs}
 use borrow.Author.Tests.{eq-eqb, ne-eqb, lt-ltb, le-ltb, not-false}
 use Rattle.admission.specs.Admission.{longer, roomOf, admission}
-use Rattle.admission.specs.Admitted.{few}
+use Rattle.admission.specs.Admitted.{three-or-four}
 use Rattle.admission.proofs.admit.Statement.{statement}
 use Rattle.admission.proofs.admit.Tie as tie
 
@@ -33,7 +33,7 @@ pixels-requires c κs = omega (arith, c .before .before .longer .ensures, c .bef
 mul-all : tie.Need-mul-all
 mul-all c =
     let channels = c .before .before .before .before .args .p .channels in
-    let four = few channels (not-false _ (c .before .if2 .left)) .1 in
+    let four = three-or-four channels (not-false _ (c .before .if2 .left)) .1 in
     record { fits = omega (arith, mul-le-mul-right channels (c .pixels .ensures .1), four) }
 
 mul-needed : tie.Need-mul-needed

@@ -3,15 +3,13 @@ use mathlib.Core.Path.{refl, sym, ap, _∙_}
 use Prim.Native.Nat.{ℕ}
 use lib.Bits.{bitXor}
 use Rattle.seq.specs.Tab.{tab}
-use Rattle.crc32.specs.Register.{turn}
-use Rattle.crc32.specs.Turns.{turns}
+use Rattle.crc32.specs.Shift.{registerTurn, registerTurns, table, tableEntry}
 use Rattle.crc32.specs.Bytes.{crc-after, crc-lt}
-use Rattle.crc32.specs.Table.{table, entry}
 use Rattle.crc32.proofs.crc32.Statement.{statement}
 use Rattle.crc32.proofs.crc32.Tie as tie
 
 update-requires : tie.Need-update-requires
-unfolding table tab entry turns turn
+unfolding table tab tableEntry registerTurns registerTurn
 update-requires c κs = refl
 
 cast-result : tie.Need-cast-result

@@ -7,8 +7,8 @@ use native.Mathlib.Omega.{arith}
 use denote.Ref.{now}
 use lib.ListN.{length, set, replicate, length-set, length-append, replicate-append-replicate}
 use lib.Seq.{paste, set-at, append-snoc}
-use Rattle.record.specs.Record.{short, headOf, laid}
-use Rattle.record.specs.Laws.{pasted}
+use Rattle.record.specs.Record.{short, headOf, laidOut}
+use Rattle.record.specs.Laws.{pasted-over}
 use Rattle.record_build.proofs.lay.Statement.{statement}
 use Rattle.record_build.proofs.lay.Tie as tie
 
@@ -20,7 +20,7 @@ module _ (front text : List ℕ) (five : length front ≡ 5) (fits : length text
   all-laid =
       let more : 40 - length text ≡ 32 - length text + 8 = omega arith in
       let six : length (front ++ (length text ∷ [])) ≡ 6 = simp length-append (omega arith) in
-      rw (sized, pasted (front ++ (length text ∷ [])) text 6 40 six (omega arith), more, ← replicate-append-replicate {A = ℕ} (32 - length text) 8 0)
+      rw (sized, pasted-over (front ++ (length text ∷ [])) text 6 40 six (omega arith), more, ← replicate-append-replicate {A = ℕ} (32 - length text) 8 0)
       (simp append-assoc)
 
 begun : (c : tie.After-copy-bytes) → let front = headOf short (c .before .before .before .before .before .args .lock) in (length front ≡ 5) × (c .copy-bytes .last .1 .0 ≡ front ++ replicate 41 0)
@@ -28,7 +28,7 @@ begun c =
     let made = c .before .before .before in
     let front = headOf short (made .before .before .args .lock) in
     let five : length front ≡ 5 = rw (← made .head .ensures) (search needs) in
-    (five, c .copy-bytes .ensures ∙ rw (made .head .ensures) (pasted [] front 0 46 refl (omega arith) ∙ rw five))
+    (five, c .copy-bytes .ensures ∙ rw (made .head .ensures) (pasted-over [] front 0 46 refl (omega arith) ∙ rw five))
 
 copy-bytes-requires-2 : tie.Need-copy-bytes-requires-2
 copy-bytes-requires-2 c κs =
@@ -36,7 +36,7 @@ copy-bytes-requires-2 c κs =
     rw (length-set, front .1, length-append) (omega (arith, front .0))
 
 returns : tie.Need-returns
-unfolding laid
+unfolding laidOut
 returns c =
     let copied = c .before .before .before .before in
     let args = copied .before .before .before .before .before .args in

@@ -10,25 +10,25 @@ use native.Mathlib.Omega.{arith}
 use denote.Ref.{now}
 use lib.ListN.{length, getD, drop}
 use lib.Seq.{drop-cons, drop-length}
-use Rattle.record.specs.Record.{zeros}
+use Rattle.record.specs.Record.{allZero}
 use Rattle.record_inside.proofs.all_zero.Statement.{statement}
 use Rattle.record_inside.proofs.all_zero.Tie as tie
 
 module _ (bs : List ℕ) (i : ℕ) (h : i < length bs) where
-  stops : (getD bs i 0 ≡ 0 → ⊥) → zeros (drop i bs) ≡ false
-  unfolding zeros
+  stops : (getD bs i 0 ≡ 0 → ⊥) → allZero (drop i bs) ≡ false
+  unfolding allZero
   stops n = rw (drop-cons bs i 0 h, ne-eqb (getD bs i 0) 0 n)
 
-  goes-on : getD bs i 0 ≡ 0 → zeros (drop (i + 1) bs) ≡ zeros (drop i bs)
-  unfolding zeros
+  goes-on : getD bs i 0 ≡ 0 → allZero (drop (i + 1) bs) ≡ allZero (drop i bs)
+  unfolding allZero
   goes-on e = rw (add-one, drop-cons bs i 0 h, eq-eqb (getD bs i 0) 0 e)
 
-ends : (bs : List ℕ) (i : ℕ) → i ≡ length bs → zeros (drop i bs) ≡ true
-unfolding zeros
+ends : (bs : List ℕ) (i : ℕ) → i ≡ length bs → allZero (drop i bs) ≡ true
+unfolding allZero
 ends bs i e = rw (e, drop-length)
 
 abbrev Inv-loop : tie.InvT-loop
-Inv-loop bytes i₀ i-end i = (i-end ≡ length bytes) × (i ≤ i-end) × (zeros (drop i bytes) ≡ zeros bytes)
+Inv-loop bytes i₀ i-end i = (i-end ≡ length bytes) × (i ≤ i-end) × (allZero (drop i bytes) ≡ allZero bytes)
 
 abbrev μ-loop : tie.MeasureT-loop
 μ-loop bytes i₀ i-end i = i-end - i

@@ -10,7 +10,7 @@ use denote.Ref.{now}
 use lib.ListN.{length, getD, take, drop, length-drop}
 use lib.Seq.{length-take-le}
 use Rattle.record.specs.Record.{short, textIn, insideOf}
-use Rattle.record.specs.Laws.{pasted, sound-length}
+use Rattle.record.specs.Laws.{pasted-over, sound-length}
 use Rattle.record_inside.proofs.inside.Statement.{statement}
 use Rattle.record_inside.proofs.inside.Tie as tie
 
@@ -52,7 +52,7 @@ returns-2 c =
     let text = take (getD bs 5 0) (drop 6 bs) in
     let long : length text ≡ getD bs 5 0 = length-take-le _ (drop 6 bs) (rw size at (part-there checked)) in
     let room : length text ≤ 32 = omega (arith, fits checked) in
-    rw (c .before .copy-bytes .ensures, size, ← checked .before .sound .ensures, is-sound checked, pasted [] text 0 32 refl room, long)
+    rw (c .before .copy-bytes .ensures, size, ← checked .before .sound .ensures, is-sound checked, pasted-over [] text 0 32 refl room, long)
 
 pub inside-spec : {M : Type 1} → statement M
 inside-spec =

@@ -7,13 +7,13 @@ use Prim.Native.Nat.{_+_, _-_}
 use denote.Ref.{now}
 use lib.Dec.{leb}
 use lib.ListN.{getD}
-use Rattle.record.specs.Record.{short, textIn, paddingIn, zeros, sound}
+use Rattle.record.specs.Record.{short, textIn, paddingIn, allZero, sound}
 use native.Mathlib.Omega.{arith}
 use Rattle.record_inside.proofs.sound.Statement.{statement}
 use Rattle.record_inside.proofs.sound.Tie as tie
 
 -- the length is right, and the padding was tested
-padded : (c : tie.After-all-zero) → let bs = now (c .before .before .before .before .before .args .bytes) in (leb (getD bs 5 0) 32 ≡ true) × (zeros (paddingIn short bs) ≡ c .all-zero .result)
+padded : (c : tie.After-all-zero) → let bs = now (c .before .before .before .before .before .args .bytes) in (leb (getD bs 5 0) 32 ≡ true) × (allZero (paddingIn short bs) ≡ c .all-zero .result)
 unfolding paddingIn
 padded c =
     let bs = now (c .before .before .before .before .before .args .bytes) in

@@ -7,12 +7,12 @@ use lib.ListN.{length, take}
 use lib.Seq.{length-take-le}
 use Rattle.report.specs.Input.{bytesReading}
 use Rattle.report.specs.Line.{lineOf, lineAs}
-use Rattle.report.specs.Laws.{Fits, bytes-fit, lends}
+use Rattle.report.specs.Laws.{FitsLine, bytes-fit, lends}
 use Rattle.report.proofs.say.Statement.{statement}
 use Rattle.report.proofs.say.Tie as tie
 
 module _ (c : tie.After-read-bytes) where
-  fits : Fits (c .read-bytes .result)
+  fits : FitsLine (c .read-bytes .result)
   fits = rw (c .read-bytes .ensures) (bytes-fit (now (c .before .before .args .bytes)))
 
   cut : length (take (c .read-bytes .result .length) (c .read-bytes .result .text)) ≡ c .read-bytes .result .length

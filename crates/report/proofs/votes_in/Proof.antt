@@ -7,12 +7,12 @@ use denote.Ref.{now}
 use lib.ListN.{length, take, length-set}
 use Rattle.seq.specs.Tab.{tab, prefix-more, prefix-all}
 use Rattle.chacha20.specs.Rfc8439.{word}
-use Rattle.report.specs.Input.{voteAt}
+use Rattle.report.specs.Input.{voteFrom}
 use Rattle.report.proofs.votes_in.Statement.{statement}
 use Rattle.report.proofs.votes_in.Tie as tie
 
 abbrev Inv-loop : tie.InvT-loop
-Inv-loop bytes votes₀ k₀ votes k = (k ≤ 1024) × (length votes ≡ 1024) × (take k votes ≡ tab (voteAt bytes) k)
+Inv-loop bytes votes₀ k₀ votes k = (k ≤ 1024) × (length votes ≡ 1024) × (take k votes ≡ tab (voteFrom bytes) k)
 
 abbrev μ-loop : tie.MeasureT-loop
 μ-loop bytes votes₀ k₀ votes k = 1024 - k
@@ -22,18 +22,18 @@ unfolding tab
 loop-holds c = (omega arith, refl, refl)
 
 loop-again : tie.Need-loop-again Inv-loop μ-loop
-unfolding voteAt word
+unfolding voteFrom word
 loop-again c =
     let l = c .before .before .before .before .before .before .before .loop in
     let bytes = now (c .before .before .before .before .before .before .before .before .before .args .bytes) in
     let h : l .k < length (l .votes) = omega (arith, l .inv .1) in
-    (omega arith, simp length-set (l .inv .1), prefix-more (voteAt bytes) (l .k) (c .f32-from-bits .result) (l .votes) h (rw (c .f32-from-bits .ensures, c .before .little-endian .ensures) refl) (l .inv .2))
+    (omega arith, simp length-set (l .inv .1), prefix-more (voteFrom bytes) (l .k) (c .f32-from-bits .result) (l .votes) h (rw (c .f32-from-bits .ensures, c .before .little-endian .ensures) refl) (l .inv .2))
 
 returns : tie.Need-returns Inv-loop μ-loop
 returns c =
     let l = c .before .loop in
     let k : l .k ≡ 1024 = omega arith in
-    prefix-all (voteAt (now (c .before .before .before .args .bytes))) 1024 (l .votes) (l .inv .1) (rw k at (l .inv .2))
+    prefix-all (voteFrom (now (c .before .before .before .args .bytes))) 1024 (l .votes) (l .inv .1) (rw k at (l .inv .2))
 
 pub votes-in-spec : {M : Type 1} → statement M
 votes-in-spec =

@@ -9,7 +9,7 @@ use Rattle.refusal.specs.declared.Answer.the-variants.{Done}
 use Rattle.admission.specs.Admission.{readAdmission}
 use Rattle.admission.specs.Admitted.{read-admitted}
 use Rattle.extract.specs.Extract.{textOf}
-use Rattle.resilient.specs.Sized.{sized, plane-room}
+use Rattle.resilient.specs.Sized.{admitted-sized, admitted-room}
 use Rattle.resilient.specs.Left.{read-done, read-refused}
 use borrow.Author.Needs.{needs}
 use Rattle.resilient.proofs.read.Statement.{statement}
@@ -27,7 +27,7 @@ votes-requires c κs =
     let told = c .before in
     let start = told .before .before .before .before .before .args in
     let may = read-admitted (start .picture) (length (now (start .samples))) (length (now (start .work))) (done told) in
-    (sized 1 (start .picture) (now (start .samples)) (length (now (start .work))) (may .2) (may .0) (may .1), plane-room 1 (start .picture) (now (start .samples)) (length (now (start .work))) (may .2) (lit≤ tt))
+    (admitted-sized 1 (start .picture) (now (start .samples)) (length (now (start .work))) (may .2) (may .0) (may .1), admitted-room 1 (start .picture) (now (start .samples)) (length (now (start .work))) (may .2) (lit≤ tt))
 
 returns : tie.Need-returns
 returns c =

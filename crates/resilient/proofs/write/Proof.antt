@@ -14,8 +14,8 @@ use Rattle.encoder.specs.Ccsds131.{encodeOf}
 use Rattle.admission.specs.Admitted.{write-admitted}
 use Rattle.refusal.specs.Laws.{first-done}
 use Rattle.carrier.specs.Carrier.{markedSamples}
-use Rattle.resilient.specs.Resilient.{bitsOf, writeAnswer, writtenOf}
-use Rattle.resilient.specs.Sized.{sized, plane-room}
+use Rattle.resilient.specs.Resilient.{textBits, writeAnswer, writtenOf}
+use Rattle.resilient.specs.Sized.{admitted-sized, admitted-room}
 use Rattle.resilient.specs.Left.{written-done, written-refused}
 use borrow.Author.Needs.{needs}
 use Rattle.resilient.proofs.write.Statement.{statement}
@@ -44,10 +44,10 @@ mark-requires c κs =
     let told = c .before .before .before .before .before .before .before .before in
     let start = told .before .before .before .before .before .before .before .before .args in
     let may = write-admitted (start .picture) (length (now (start .samples))) (length (now (start .work))) (first-done _ _ (done told) .1) in
-    (sized 2 (start .picture) (now (start .samples)) (length (now (start .work))) (may .2) (omega (arith, may .0)) (omega (arith, may .1)), may .0, may .1, plane-room 2 (start .picture) (now (start .samples)) (length (now (start .work))) (may .2) (lit≤ tt))
+    (admitted-sized 2 (start .picture) (now (start .samples)) (length (now (start .work))) (may .2) (omega (arith, may .0)) (omega (arith, may .1)), may .0, may .1, admitted-room 2 (start .picture) (now (start .samples)) (length (now (start .work))) (may .2) (lit≤ tt))
 
 returns-2 : tie.Need-returns-2
-unfolding bitsOf writtenOf writeAnswer
+unfolding textBits writtenOf writeAnswer
 returns-2 c =
     let told = c .before .before .before .before .before .before .before .before .before .before .before .before .before in
     let start = told .before .before .before .before .before .before .before .before .args in

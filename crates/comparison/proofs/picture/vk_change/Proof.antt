@@ -8,7 +8,8 @@ use denote.Ref.{now}
 use lib.Ieee.{Float}
 use lib.ListN.{length}
 use Rattle.resample.specs.Samples.{changedOf}
-use Rattle.comparison.specs.Pictures.{hasChange, changeInto, change-fits}
+use Rattle.comparison.specs.Pictures.{change-fits}
+use Rattle.comparison.specs.Stages.{hasChange, changeInto}
 use Rattle.comparison.proofs.picture.vk_change.Statement.{statement}
 use Rattle.comparison.proofs.picture.vk_change.Tie as tie
 

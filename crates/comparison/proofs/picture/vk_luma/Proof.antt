@@ -9,7 +9,8 @@ use lib.Ieee.{Float}
 use lib.ListN.{length}
 use Rattle.seq.specs.Tab.{tab}
 use Rattle.resample.specs.Samples.{lumaAt}
-use Rattle.comparison.specs.Pictures.{hasLuma, lumaInto, luma-fits}
+use Rattle.comparison.specs.Pictures.{luma-fits}
+use Rattle.comparison.specs.Stages.{hasLuma, lumaInto}
 use Rattle.comparison.proofs.picture.vk_luma.Statement.{statement}
 use Rattle.comparison.proofs.picture.vk_luma.Tie as tie
 

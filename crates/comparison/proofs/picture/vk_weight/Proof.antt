@@ -6,7 +6,7 @@ use mir.Syntax.{w64}
 use mir.ValLaws.{toZ-ofZ}
 use Rattle.resample_window.specs.Window.{weightOf}
 use Rattle.resample_window.specs.declared.Window.{Window}
-use Rattle.comparison.specs.Pictures.{reached, weightValue}
+use Rattle.comparison.specs.Stages.{hasWeight, weightValue}
 use Rattle.comparison.proofs.picture.vk_weight.Statement.{statement}
 use Rattle.comparison.proofs.picture.vk_weight.Tie as tie
 
@@ -18,7 +18,7 @@ returns c =
     weighed .weight .ensures
     ∙ (ap (λ (z : ℤ). weightOf (weighed .before .new .result) z) (toZ-ofZ w64 (start .args .j) (start .fits .j))
     ∙ ap (λ (w : Window). weightOf w (start .args .j)) (weighed .before .new .ensures)) in
-    (c .is-of .ensures ∙ ap reached found, c .before .value .ensures ∙ ap weightValue found)
+    (c .is-of .ensures ∙ ap hasWeight found, c .before .value .ensures ∙ ap weightValue found)
 
 pub vk-weight-spec : {M : Type 1} → statement M
 vk-weight-spec =

@@ -4,7 +4,7 @@ use mathlib.Core.Path.{sym}
 use native.Mathlib.Omega.{arith}
 use denote.Ref.{now}
 use lib.Seq.{length-take-le}
-use Rattle.record.specs.Record.{bigEndian, summed}
+use Rattle.record.specs.Record.{bigEndian, withCrc}
 use Rattle.record.proofs.crc.put_crc.Statement.{statement}
 use Rattle.record.proofs.crc.put_crc.Tie as tie
 
@@ -12,7 +12,7 @@ slice-aggregate-crc32 : tie.Need-slice-aggregate-crc32
 slice-aggregate-crc32 c = sym (length-take-le _ (now (c .before .before .args .bytes)) (omega arith))
 
 returns : tie.Need-returns
-unfolding summed bigEndian
+unfolding withCrc bigEndian
 returns c =
     let copied = c .before .before in
     let crc = copied .before .before .before in

@@ -9,7 +9,8 @@ use denote.Ref.{now}
 use lib.ListN.{length, take, getD}
 use lib.Seq.{take-suc, take-all, length-take-le}
 use Rattle.report.specs.Line.{pairs}
-use Rattle.report.specs.Put.{Puts, puts-none, puts-more}
+use Rattle.report.specs.Put.{puts-none, puts-more}
+use Rattle.report.specs.Puts.{Puts}
 use Rattle.report.specs.Laws.{pairs-more, length-pairs}
 use Rattle.report.proofs.put.pairs.Statement.{statement}
 use Rattle.report.proofs.put.pairs.Tie as tie
