@@ -17,6 +17,9 @@ ghost use Rattle.report.specs.Line.{textLine, refusedLine, lineOf, lineA
 // Four for each vote.
 const BYTES: usize = 4096;
 
+// How many bytes of input are looked at: one more than is wanted tells that there are too many.
+pub const INPUT: usize = BYTES + 1;
+
 // The longest line is "text 32 ", 64 digits and the line's end.
 const ROOM: usize = 73;
 
