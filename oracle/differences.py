@@ -1,4 +1,4 @@
-"""What document 01 leaves unsaid or says otherwise than the Rust: differences.py ORACLE."""
+"""What the Rust alone decides, and where it and the scope part: differences.py ORACLE."""
 
 import struct
 import subprocess
@@ -165,7 +165,7 @@ def decoder():
     record = "40" + "00" * 45
     show("Decoding with votes 0 and 2 plus and minus infinity, else zero: each state's best starts from\n"
          "minus infinity and gives way to a greater candidate only. One that is not a number never wins;\n"
-         "by document 01's words an even one would stay, and the record would be all zeros.",
+         "were only the odd one held to that, an even one would stay, and the record would be all zeros.",
          line("decode", floats(soft)), f"{record} 7f800000")
     soft = [float("nan")] + [0.0] * 747
     show("Decoding with vote 0 not a number: the zero record, and the metric is minus infinity.",
@@ -173,9 +173,9 @@ def decoder():
 
 
 def texts():
-    """Document 01's check of a text to be written takes what the reader refuses."""
+    """The scope's check of a text to be written takes what the reader refuses."""
     record = line("record c080")
-    show("The text c0 80 is taken for writing by document 01, and its record is then refused; the Rust's\n"
+    show("The text c0 80 is taken for writing by the scope, and its record is then refused; the Rust's\n"
          "type for text cannot hold it.", line(f"parse {record}"), "refused 12 0")
 
 

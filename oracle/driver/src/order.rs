@@ -1,4 +1,4 @@
-//! The stage order: every set of faults at once, held to a direct reading of document 01 and not to the Rust. The first
+//! The stage order: every set of faults at once, held to a direct reading of the scope and not to the Rust. The first
 //! refusal that applies is given, and none where there is no fault.
 
 use judge::picture::{Kind, Picture, samples};
@@ -132,7 +132,7 @@ const KEY: Key = [0x5a; 32];
 const SALT: [u8; 4] = [1, 2, 3, 4];
 const TEXT: &[u8] = b"Saturn V";
 
-/// What is wrong inside a record, in document 01's order: length over 32, padding, inner CRC, UTF-8.
+/// What is wrong inside a record, in the scope's order: length over 32, padding, inner CRC, UTF-8.
 const INSIDES: u32 = 4;
 
 /// A record with faults: outer CRC, mode, and then the insides.

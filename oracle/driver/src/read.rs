@@ -49,7 +49,7 @@ pub fn told(
     Some((told, work))
 }
 
-/// Document 01: as lent after 1 to 7, and after 8 for a zero side; otherwise zeros.
+/// The scope: as lent after 1 to 7, and after 8 for a zero side; otherwise zeros.
 pub fn work_as_said(picture: Picture, number: u8, work: &Floats) -> bool {
     let zero_side = picture.width == 0 || picture.height == 0;
     if (1..=7).contains(&number) || zero_side { work.kept() } else { work.cleared() }

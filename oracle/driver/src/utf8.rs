@@ -1,4 +1,4 @@
-//! The stage utf8, beside `std::str::from_utf8` and document 01's check on writing.
+//! The stage utf8, beside `std::str::from_utf8` and the scope's check on writing.
 
 use judge::hex;
 use judge::random::Random;

@@ -1,4 +1,4 @@
-//! The stand-in's keystream from any position, with document 01's refusal 14.
+//! The stand-in's keystream from any position, with the scope's refusal 14.
 
 use chacha20::cipher::{KeyIvInit, StreamCipher};
 use chacha20::{ChaCha20, Key, Nonce};

@@ -47,7 +47,7 @@ pub const COMMANDS: &[Command] = &[
     Command {
         name: "votes",
         arguments: "< 1,024 f32",
-        meaning: "What document 01's program votes prints.",
+        meaning: "What the scope's program votes prints.",
         run: votes,
     },
     Command {
@@ -312,7 +312,7 @@ fn inverse(arguments: &mut Arguments) -> Answered {
     floats(block)
 }
 
-/// The samples on standard input, where document 01 lets them pass.
+/// The samples on standard input, where the scope lets them pass.
 fn samples(picture: Picture) -> Result<Vec<u8>, Failure> {
     let samples = input();
     match resilient::samples_refusal(picture, samples.len()) {

@@ -1,4 +1,4 @@
-//! The Rust as the judge: its stages, and in front of them the refusals that document 01 adds.
+//! The Rust as the judge: its stages, and in front of them the refusals that the scope adds.
 
 pub mod cipher;
 pub mod edges;

@@ -14,7 +14,7 @@ fn help() -> String {
         "oracle COMMAND [ARGUMENT]...: the Rust's answer for one stage.
 
 Numbers are decimal; KEY, SALT, NONCE, TEXT, RECORD and BITS are hex, - for none. Samples, f32 and f64
-on standard input and output are raw, floats little-endian. What document 01 refuses is printed as
+on standard input and output are raw, floats little-endian. What the scope refuses is printed as
 `refused NUMBER GIVEN`. Exit status: 0 answered, 1 refused, 2 not understood.
 ",
     );

@@ -1,8 +1,8 @@
-//! The refusals of document 01.
+//! The refusals of the scope.
 
 use std::fmt;
 
-/// A refusal: its number in document 01's table, and the number given with it.
+/// A refusal: its number in the scope's table, and the number given with it.
 #[derive(Debug, Clone, Copy, PartialEq, Eq)]
 pub struct Refused {
     pub number: u8,
@@ -21,7 +21,7 @@ impl fmt::Display for Refused {
     }
 }
 
-/// What the Rust says, in document 01's numbers. The unchanged Rust and its instrumented copy have an
+/// What the Rust says, in the scope's numbers. The unchanged Rust and its instrumented copy have an
 /// `Error` each, with the same cases. Neither gives a salt: `salt` is that of the record.
 macro_rules! from_error {
     ($function:ident, $rust:ident) => {

@@ -1,4 +1,4 @@
-//! Writing and reading: document 01's refusals in its order, and behind them the Rust.
+//! Writing and reading: the scope's refusals in its order, and behind them the Rust.
 
 use argon2::password_of;
 use instrumented::stages;
@@ -24,7 +24,7 @@ pub struct Lock {
     pub salt: [u8; 4],
 }
 
-/// Document 01's check of a text to be written: leading bytes with as many others as they announce.
+/// The scope's check of a text to be written: leading bytes with as many others as they announce.
 pub fn counted(mut text: &[u8]) -> bool {
     while let [first, rest @ ..] = text {
         let following = match first {
@@ -102,7 +102,7 @@ fn samples_of(image: DynamicImage) -> Vec<u8> {
     }
 }
 
-/// The text as the Rust's type. The check of document 01 lets texts through that are not UTF-8, for
+/// The text as the Rust's type. The check of the scope lets texts through that are not UTF-8, for
 /// which the type does not vouch: the Rust asks it for nothing but its length and its bytes.
 fn as_str(text: &[u8]) -> &str {
     unsafe { std::str::from_utf8_unchecked(text) }
@@ -137,7 +137,7 @@ pub fn write(
     let is_own = |refused: Refused| refused.number == 1 || refused.number == 3;
     let image = container(picture, samples);
     match (refusal, image) {
-        (None, None) => unreachable!("samples that pass document 01 have a container"),
+        (None, None) => unreachable!("samples that pass the scope have a container"),
         (None, Some(image)) => {
             let marked = rust_write(image, text, lock).expect("the Rust takes what 01 takes");
             Ok(samples_of(marked))
@@ -176,7 +176,7 @@ pub fn read(
         return Err(refused);
     }
     let image =
-        container(picture, samples).expect("samples that pass document 01 have a container");
+        container(picture, samples).expect("samples that pass the scope have a container");
     let answer = match key {
         None => invisible_watermark::extract_resilient(&image),
         Some(key) => {
@@ -236,12 +236,12 @@ pub fn parse(record: [u8; 46], key: Option<Key>) -> Result<String, Refused> {
         .map_err(|error| from_instrumented(error, salt_of(&record)))
 }
 
-/// The line that document 01's program prints of a text.
+/// The line that the scope's program prints of a text.
 pub fn line(text: &str) -> String {
     format!("text {} {}", text.len(), hex::of_bytes(text.as_bytes()))
 }
 
-/// What document 01's program `votes` answers to an input, of which it reads at most 4,097 bytes.
+/// What the scope's program `votes` answers to an input, of which it reads at most 4,097 bytes.
 pub fn votes(input: &[u8]) -> Result<String, Refused> {
     let input = &input[..input.len().min(VOTES_LEN + 1)];
     if input.len() != VOTES_LEN {

@@ -3,14 +3,14 @@
 use crate::random::Random;
 use crate::{hex, stages};
 
-/// Document 01's key of the layout.
+/// The scope's key of the layout.
 const LAYOUT_KEY: [u8; 32] = *b"iwm v3 public layout key\0\0\0\0\0\0\0\0";
 /// The longest list that the port shuffles.
 pub const LONGEST: usize = 4_096;
 /// Lengths around the ends of the range and of bytes.
 pub const LENGTHS: [usize; 10] = [0, 1, 2, 3, 255, 256, 1_024, 4_095, 4_096, 4_097];
 
-/// The number of entries, and what `room` lent places hold: document 01 cuts the count to the room, gives no entries of a
+/// The number of entries, and what `room` lent places hold: the scope cuts the count to the room, gives no entries of a
 /// longer list, and zeros beyond the entries.
 pub fn lent(key: &[u8; 32], len: usize, count: usize, room: usize) -> (usize, Vec<u16>) {
     let allowed = if len <= LONGEST { count.min(room) } else { 0 };

@@ -1,5 +1,5 @@
 //! Byte strings at the edges of RFC 3629's forms, and what the two checks of a text say of them: `std::str::from_utf8`
-//! on reading, and document 01's count of bytes on writing.
+//! on reading, and the scope's count of bytes on writing.
 
 use crate::hex;
 use crate::resilient::counted;

@@ -226,7 +226,7 @@ fn decodings() -> Vec<String> {
 }
 
 fn convolution_lists() -> Vec<List> {
-    let list = |name, about, lines| List { program: "replay_convolution", name, about, lines };
+    let list = |name, about, lines| List { program: "replay_code", name, about, lines };
     vec![
         list(
             "encode",

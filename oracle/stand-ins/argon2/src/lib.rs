@@ -1,6 +1,6 @@
 //! Stands in for the crate `argon2` and is not Argon2: the password is the key itself, in 64 hex digits.
 //!
-//! Document 01 leaves Argon2id to the host, which passes a 32-byte key. The Rust takes a password,
+//! The scope leaves Argon2id to the host, which passes a 32-byte key. The Rust takes a password,
 //! so the judge writes the key as `password_of` says, and this crate reads it back whatever the salt.
 
 /// The password under which `hash_password_into` gives `key`.
