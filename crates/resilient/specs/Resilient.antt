@@ -13,7 +13,7 @@ use Rattle.record.specs.Record.{short, recordOf, refused, builtOf}
 use Rattle.record.specs.Answers.{readAs}
 use Rattle.record_build.specs.Answers.{builtAs}
 use Rattle.layout.specs.Places.{blockBits}
-use Rattle.encoder.specs.Ccsds131.{encodeOf}
+use Rattle.encoder.specs.Ccsds131.{codedBits, encodeOf}
 use Rattle.admission.specs.declared.Picture.{Picture}
 use Rattle.admission.specs.Admission.{first, writeAdmission, readAdmission}
 use Rattle.carrier.specs.Carrier.{cleared, markedSamples, pictureVotes}
@@ -28,7 +28,7 @@ ifDone (Refused r) new lent = lent
 
 -- the bit that each block carries
 unfoldable pub bitsOf : List ℕ → Lock → List ℕ
-bitsOf text lock = blockBits 748 (encodeOf (recordOf short text lock))
+bitsOf text lock = blockBits codedBits (encodeOf (recordOf short text lock))
 
 pub record Written : Type 0 where
   pub answer : Answer
