@@ -1,4 +1,4 @@
-// Crates `crc32`, `utf8`, `shuffle`, `layout`, `dither`, `encoder` and `convolution`.
+// Crates `crc32`, `utf8`, `shuffle`, `layout`, `dither`, `encoder` and `decoder`.
 ghost use mathlib.Core.Path.{_≡_};
 ghost use Prim.Native.Nat.{_+_, _*_};
 ghost use lib.ListN.{length};
@@ -9,9 +9,11 @@ ghost use Rattle.utf8.specs.Counted.{counted};
 ghost use Rattle.dither.specs.Dither.{ditherOf};
 ghost use Rattle.layout.specs.Places.{blockBits, gathered};
 ghost use Rattle.shuffle.specs.Shuffle.{shuffleOf, lentFor};
-ghost use Rattle.encoder.specs.Ccsds131.{encodeOf};
-ghost use Rattle.decoder.specs.Decoder.{floats, decoded, strength};
-ghost use Rattle.decoder.specs.RecordBits.{recordOf};
+ghost use Rattle.encoder.specs.Ccsds131.{recordSize, codedBits, encodeOf};
+ghost use Rattle.decoder.specs.Decoder.{floats, decoded, strength, bytesOf};
+use encoder::CODED;
+use encoder::RECORD;
+use layout::BLOCKS;
 
 #[no_mangle]
 pub extern "C" fn vk_crc32(bytes: &[u8]) -> u32
@@ -35,15 +37,15 @@ pub extern "C" fn vk_utf8_counted(bytes: &[u8]) -> bool
 }
 
 #[no_mangle]
-pub extern "C" fn vk_block_bits(coded: &[u8; 748], bits: &mut [u8; 1024])
-    ensures { λ _. ⌜ now (bits .exit) ≡ blockBits 748 (now (coded .entry)) ⌝ }
+pub extern "C" fn vk_block_bits(coded: &[u8; CODED], bits: &mut [u8; BLOCKS])
+    ensures { λ _. ⌜ now (bits .exit) ≡ blockBits codedBits (now (coded .entry)) ⌝ }
 {
     *bits = layout::block_bits(coded);
 }
 
 #[no_mangle]
-pub extern "C" fn vk_gather(votes: &[f32; 1024], soft: &mut [f32; 748])
-    ensures { λ _. ⌜ now (soft .exit) ≡ gathered 748 (now (votes .entry)) ⌝ }
+pub extern "C" fn vk_gather(votes: &[f32; BLOCKS], soft: &mut [f32; CODED])
+    ensures { λ _. ⌜ now (soft .exit) ≡ gathered codedBits (now (votes .entry)) ⌝ }
 {
     *soft = layout::gather(votes);
 }
@@ -64,7 +66,7 @@ pub extern "C" fn vk_shuffle(key: &[u8; 32], len: usize, count: usize, entries: 
 }
 
 #[no_mangle]
-pub extern "C" fn vk_encode(bytes: &[u8; 46], coded: &mut [u8; 748])
+pub extern "C" fn vk_encode(bytes: &[u8; RECORD], coded: &mut [u8; CODED])
     ensures { λ _. ⌜ now (coded .exit) ≡ encodeOf (now (bytes .entry)) ⌝ }
 {
     *coded = encoder::encode(bytes);
@@ -72,10 +74,10 @@ pub extern "C" fn vk_encode(bytes: &[u8; 46], coded: &mut [u8; 748])
 
 // The record, and the metric with which state 0 ended.
 #[no_mangle]
-pub extern "C" fn vk_decode(soft: &[f32; 748], bytes: &mut [u8; 46]) -> f32
-    ensures { λ r. ⌜ (now (bytes .exit) ≡ recordOf 46 (decoded floats (now (soft .entry)))) × (r ≡ strength floats (now (soft .entry))) ⌝ }
+pub extern "C" fn vk_decode(soft: &[f32; CODED], bytes: &mut [u8; RECORD]) -> f32
+    ensures { λ r. ⌜ (now (bytes .exit) ≡ bytesOf recordSize (decoded floats (now (soft .entry)))) × (r ≡ strength floats (now (soft .entry))) ⌝ }
 {
-    let d = decoder::decoder::decode(soft);
+    let d = decoder::decode(soft);
     let found = d.bytes;
     *bytes = found;
     d.metric

@@ -10,10 +10,9 @@ use lib.Seq.{take-suc, drop-cons, getD-set-same, drop-set-lt, take-suc-set, leng
 use lib.Pow.{pow-mono}
 use Rattle.encoder.specs.Ccsds131.{Bits}
 use Rattle.encoder.specs.Bits.{bits-at}
-use Rattle.decoder.specs.Packed.{packed}
-use Rattle.decoder.specs.Decoder.{Sums, step, after, oddAt}
-use Rattle.decoder.specs.Trace.{origR, pathR, rows, after-more, rows-more}
-use Rattle.decoder.specs.RecordBits.{byteAt}
+use Rattle.decoder.specs.Decoder.{Sums, nextMetrics, metricsAfter, oddAt, byteAt}
+use Rattle.decoder.specs.Decisions.{packed, decisionRows, tracedFrom, tracedPath}
+use Rattle.decoder.specs.Trace.{metricsAfter-more, decisionRows-more}
 
 module _ {A : Type 0} where
   pub take-two : (xs : List A) (t : ℕ) (d : A) → 2 * t + 1 < length xs → take (2 * (t + 1)) xs ≡ take (2 * t) xs ++ (getD xs (2 * t) d ∷ getD xs (2 * t + 1) d ∷ [])
@@ -32,12 +31,12 @@ module _ {A : Type 0} where
 
 -- ---- traced back, one step more
 
-pub orig-at : (ds : List ℕ) (k t j : ℕ) → t < length ds → j ≡ origR (drop (suc t) ds) k → origR (drop t ds) k ≡ (2 * j + getD ds t 0 / 2 ^ j % 2) % 64
-unfolding origR
+pub orig-at : (ds : List ℕ) (k t j : ℕ) → t < length ds → j ≡ tracedFrom (drop (suc t) ds) k → tracedFrom (drop t ds) k ≡ (2 * j + getD ds t 0 / 2 ^ j % 2) % 64
+unfolding tracedFrom
 orig-at ds k t j h e = rw (drop-cons ds t 0 h, e) refl
 
-pub path-at : (ds : List ℕ) (k t j : ℕ) → t < length ds → j ≡ origR (drop (suc t) ds) k → pathR (drop t ds) k ≡ j / 32 ∷ pathR (drop (suc t) ds) k
-unfolding pathR
+pub path-at : (ds : List ℕ) (k t j : ℕ) → t < length ds → j ≡ tracedFrom (drop (suc t) ds) k → tracedPath (drop t ds) k ≡ j / 32 ∷ tracedPath (drop (suc t) ds) k
+unfolding tracedPath
 path-at ds k t j h e = rw (drop-cons ds t 0 h, e) refl
 
 -- ---- the decoder forward, one step more
@@ -46,18 +45,18 @@ module _ {M W : Type 0} (o : Sums M W) (m₀ : List M) (vs : List W) (d : W) whe
   even-take : (t : ℕ) → 2 * t + 1 < length vs → length (take (2 * t) vs) ≡ 2 * t
   even-take t h = length-take-le (2 * t) vs (omega arith)
 
-  pub metric-step : (t : ℕ) (m n : List M) → 2 * t + 1 < length vs → m ≡ after o m₀ (take (2 * t) vs) → n ≡ step o m (getD vs (2 * t) d) (getD vs (2 * t + 1) d) → n ≡ after o m₀ (take (2 * (t + 1)) vs)
+  pub metric-step : (t : ℕ) (m n : List M) → 2 * t + 1 < length vs → m ≡ metricsAfter o m₀ (take (2 * t) vs) → n ≡ nextMetrics o m (getD vs (2 * t) d) (getD vs (2 * t + 1) d) → n ≡ metricsAfter o m₀ (take (2 * (t + 1)) vs)
   metric-step t m n h e f =
-      f ∙ ap (λ (x : List M). step o x (getD vs (2 * t) d) (getD vs (2 * t + 1) d)) e
-      ∙ sym (ap (after o m₀) (take-two vs t d h) ∙ after-more o m₀ (take (2 * t) vs) t (getD vs (2 * t) d) (getD vs (2 * t + 1) d) (even-take t h))
+      f ∙ ap (λ (x : List M). nextMetrics o x (getD vs (2 * t) d) (getD vs (2 * t + 1) d)) e
+      ∙ sym (ap (metricsAfter o m₀) (take-two vs t d h) ∙ metricsAfter-more o m₀ (take (2 * t) vs) t (getD vs (2 * t) d) (getD vs (2 * t + 1) d) (even-take t h))
 
-  pub rows-step : (t : ℕ) (m : List M) (out : List ℕ) (q : ℕ) → 2 * t + 1 < length vs → t < length out → m ≡ after o m₀ (take (2 * t) vs) → q ≡ packed (oddAt o m (getD vs (2 * t) d) (getD vs (2 * t + 1) d)) 64
-      → take t out ≡ rows o m₀ (take (2 * t) vs) → take (t + 1) (set out t q) ≡ rows o m₀ (take (2 * (t + 1)) vs)
+  pub rows-step : (t : ℕ) (m : List M) (out : List ℕ) (q : ℕ) → 2 * t + 1 < length vs → t < length out → m ≡ metricsAfter o m₀ (take (2 * t) vs) → q ≡ packed (oddAt o m (getD vs (2 * t) d) (getD vs (2 * t + 1) d)) 64
+      → take t out ≡ decisionRows o m₀ (take (2 * t) vs) → take (t + 1) (set out t q) ≡ decisionRows o m₀ (take (2 * (t + 1)) vs)
   rows-step t m out q h k e f r =
       ap (λ (n : ℕ). take n (set out t q)) (add-one t)
       ∙ take-suc-set out t q k
       ∙ ap₂ (λ (l : List ℕ) (x : ℕ). l ++ (x ∷ [])) r (f ∙ ap (λ (x : List M). packed (oddAt o x (getD vs (2 * t) d) (getD vs (2 * t + 1) d)) 64) e)
-      ∙ sym (ap (rows o m₀) (take-two vs t d h) ∙ rows-more o m₀ (take (2 * t) vs) t (getD vs (2 * t) d) (getD vs (2 * t + 1) d) (even-take t h))
+      ∙ sym (ap (decisionRows o m₀) (take-two vs t d h) ∙ decisionRows-more o m₀ (take (2 * t) vs) t (getD vs (2 * t) d) (getD vs (2 * t + 1) d) (even-take t h))
 
 -- ---- a byte, one bit more
 

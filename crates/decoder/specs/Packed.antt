@@ -6,10 +6,7 @@ use native.Mathlib.Nat.{eq-or-lt-of-le, add-comm, add-mul-div-right, mul-assoc, 
 use native.Mathlib.Numerals.{add-one}
 use native.Mathlib.Omega.{arith}
 use lib.Pow.{pow-add, pow-pos, pow-mono, high, shl-exact}
-
-unfoldable pub packed : (ℕ → ℕ) → ℕ → ℕ
-packed f zero = 0
-packed f (suc n) = packed f n + f n * 2 ^ n
+use Rattle.decoder.specs.Decisions.{packed}
 
 module _ (f : ℕ → ℕ) (B : (i : ℕ) → f i < 2) where
   pub packed-lt : (n : ℕ) → packed f n < 2 ^ n

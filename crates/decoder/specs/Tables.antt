@@ -6,51 +6,58 @@ use Prim.Native.Nat.{ℕ, zero, suc, _+_, _-_, _*_, _%_, _<_}
 use native.Mathlib.Omega.{arith}
 use lib.Dec.{T, eqb, eqb→eq}
 use lib.Count.{ones}
-use lib.ListN.{getD}
+use lib.ListN.{length, getD}
 use lib.Ieee.{Float, nan, inf, binary32, add, sub, neg, lt}
 use lib.Ieee.Fits.{and-l, and-r}
 use Rattle.float.specs.Whole.{neg-neg}
+use Rattle.seq.specs.Table.{every, at}
 use Rattle.encoder.specs.Ccsds131.{parity, out1, out2}
-use Rattle.decoder.specs.Linear.{parity-lt}
+use Rattle.encoder.specs.Bits.{parity-lt}
 use Rattle.decoder.specs.Decoder.{floats, pick, voted, cand, evenAt, bestAt, oddAt}
-use Rattle.decoder.specs.Distance.{every, every-at}
 
 unfoldable pub outs1 : List ℕ
-outs1 = 0 ∷ 0 ∷ 0 ∷ 0 ∷ 1 ∷ 1 ∷ 1 ∷ 1 ∷ 1 ∷ 1 ∷ 1 ∷ 1 ∷ 0 ∷ 0 ∷ 0 ∷ 0 ∷ 1 ∷ 1 ∷ 1 ∷ 1 ∷ 0 ∷ 0 ∷ 0 ∷ 0 ∷ 0 ∷ 0 ∷ 0 ∷ 0 ∷ 1 ∷ 1 ∷ 1 ∷ 1 ∷ 1 ∷ 1 ∷ 1 ∷ 1 ∷ 0 ∷ 0 ∷ 0 ∷ 0 ∷ 0 ∷ 0 ∷ 0 ∷ 0 ∷ 1 ∷ 1 ∷ 1 ∷ 1 ∷ 0 ∷ 0 ∷ 0 ∷ 0 ∷ 1 ∷ 1 ∷ 1 ∷ 1 ∷ 1 ∷ 1 ∷ 1 ∷ 1 ∷ 0 ∷ 0 ∷ 0 ∷ 0 ∷ []
+outs1 =
+    0 ∷ 0 ∷ 0 ∷ 0 ∷ 1 ∷ 1 ∷ 1 ∷ 1 ∷ 1 ∷ 1 ∷ 1 ∷ 1 ∷ 0 ∷ 0 ∷ 0 ∷ 0 ∷ 1 ∷ 1 ∷ 1 ∷ 1 ∷ 0 ∷ 0 ∷ 0 ∷ 0 ∷ 0 ∷ 0 ∷ 0 ∷ 0 ∷ 1 ∷ 1 ∷ 1 ∷ 1
+    ∷ 1 ∷ 1 ∷ 1 ∷ 1 ∷ 0 ∷ 0 ∷ 0 ∷ 0 ∷ 0 ∷ 0 ∷ 0 ∷ 0 ∷ 1 ∷ 1 ∷ 1 ∷ 1 ∷ 0 ∷ 0 ∷ 0 ∷ 0 ∷ 1 ∷ 1 ∷ 1 ∷ 1 ∷ 1 ∷ 1 ∷ 1 ∷ 1 ∷ 0 ∷ 0 ∷ 0 ∷ 0 ∷ []
 
 unfoldable pub outs2 : List ℕ
-outs2 = 0 ∷ 1 ∷ 0 ∷ 1 ∷ 1 ∷ 0 ∷ 1 ∷ 0 ∷ 1 ∷ 0 ∷ 1 ∷ 0 ∷ 0 ∷ 1 ∷ 0 ∷ 1 ∷ 0 ∷ 1 ∷ 0 ∷ 1 ∷ 1 ∷ 0 ∷ 1 ∷ 0 ∷ 1 ∷ 0 ∷ 1 ∷ 0 ∷ 0 ∷ 1 ∷ 0 ∷ 1 ∷ 1 ∷ 0 ∷ 1 ∷ 0 ∷ 0 ∷ 1 ∷ 0 ∷ 1 ∷ 0 ∷ 1 ∷ 0 ∷ 1 ∷ 1 ∷ 0 ∷ 1 ∷ 0 ∷ 1 ∷ 0 ∷ 1 ∷ 0 ∷ 0 ∷ 1 ∷ 0 ∷ 1 ∷ 0 ∷ 1 ∷ 0 ∷ 1 ∷ 1 ∷ 0 ∷ 1 ∷ 0 ∷ []
+outs2 =
+    0 ∷ 1 ∷ 0 ∷ 1 ∷ 1 ∷ 0 ∷ 1 ∷ 0 ∷ 1 ∷ 0 ∷ 1 ∷ 0 ∷ 0 ∷ 1 ∷ 0 ∷ 1 ∷ 0 ∷ 1 ∷ 0 ∷ 1 ∷ 1 ∷ 0 ∷ 1 ∷ 0 ∷ 1 ∷ 0 ∷ 1 ∷ 0 ∷ 0 ∷ 1 ∷ 0 ∷ 1
+    ∷ 1 ∷ 0 ∷ 1 ∷ 0 ∷ 0 ∷ 1 ∷ 0 ∷ 1 ∷ 0 ∷ 1 ∷ 0 ∷ 1 ∷ 1 ∷ 0 ∷ 1 ∷ 0 ∷ 1 ∷ 0 ∷ 1 ∷ 0 ∷ 0 ∷ 1 ∷ 0 ∷ 1 ∷ 0 ∷ 1 ∷ 0 ∷ 1 ∷ 1 ∷ 0 ∷ 1 ∷ 0 ∷ []
 
-test1 : ℕ → Bool
-test1 k = eqb (getD outs1 k 0) (out1 (2 * k)) && eqb (out1 (2 * k + 1)) (1 - out1 (2 * k))
+-- the entry k is the output of register 2 * k under the generator g, and that of 2 * k + 1 is its complement
+rule : ℕ → ℕ → ℕ → Bool
+rule g k c = eqb c (parity g (2 * k)) && eqb (parity g (2 * k + 1)) (1 - parity g (2 * k))
 
-test2 : ℕ → Bool
-test2 k = eqb (getD outs2 k 0) (out2 (2 * k)) && eqb (out2 (2 * k + 1)) (1 - out2 (2 * k))
-
-all1 : T (every test1 64)
-unfolding every test1 outs1 parity ones
+all1 : T (every (rule 0o171) 0 outs1)
+unfolding rule outs1 parity ones
 all1 = tt
 
-all2 : T (every test2 64)
-unfolding every test2 outs2 parity ones
+all2 : T (every (rule 0o133) 0 outs2)
+unfolding rule outs2 parity ones
 all2 = tt
+
+module _ (g : ℕ) (outs : List ℕ) (pass : T (every (rule g) 0 outs)) (k : ℕ) (K : k < length outs) where
+  entry-is : getD outs k 0 ≡ parity g (2 * k)
+  unfolding rule
+  entry-is = eqb→eq _ _ (and-l (eqb (getD outs k 0) (parity g (2 * k))) (eqb (parity g (2 * k + 1)) (1 - parity g (2 * k))) (at (rule g) outs 0 pass k K))
+
+  other-is : parity g (2 * k + 1) ≡ 1 - parity g (2 * k)
+  unfolding rule
+  other-is = eqb→eq _ _ (and-r (eqb (getD outs k 0) (parity g (2 * k))) (eqb (parity g (2 * k + 1)) (1 - parity g (2 * k))) (at (rule g) outs 0 pass k K))
 
 module _ (k : ℕ) (K : k < 64) where
   pub table1 : getD outs1 k 0 ≡ out1 (2 * k)
-  unfolding test1
-  table1 = eqb→eq (getD outs1 k 0) (out1 (2 * k)) (and-l (eqb (getD outs1 k 0) (out1 (2 * k))) (eqb (out1 (2 * k + 1)) (1 - out1 (2 * k))) (every-at test1 64 k all1 K))
+  table1 = entry-is 0o171 outs1 all1 k (unfold outs1 in K)
 
   pub table2 : getD outs2 k 0 ≡ out2 (2 * k)
-  unfolding test2
-  table2 = eqb→eq (getD outs2 k 0) (out2 (2 * k)) (and-l (eqb (getD outs2 k 0) (out2 (2 * k))) (eqb (out2 (2 * k + 1)) (1 - out2 (2 * k))) (every-at test2 64 k all2 K))
+  table2 = entry-is 0o133 outs2 all2 k (unfold outs2 in K)
 
   pub odd1 : out1 (2 * k + 1) ≡ 1 - out1 (2 * k)
-  unfolding test1
-  odd1 = eqb→eq (out1 (2 * k + 1)) (1 - out1 (2 * k)) (and-r (eqb (getD outs1 k 0) (out1 (2 * k))) (eqb (out1 (2 * k + 1)) (1 - out1 (2 * k))) (every-at test1 64 k all1 K))
+  odd1 = other-is 0o171 outs1 all1 k (unfold outs1 in K)
 
   pub odd2 : out2 (2 * k + 1) ≡ 1 - out2 (2 * k)
-  unfolding test2
-  odd2 = eqb→eq (out2 (2 * k + 1)) (1 - out2 (2 * k)) (and-r (eqb (getD outs2 k 0) (out2 (2 * k))) (eqb (out2 (2 * k + 1)) (1 - out2 (2 * k))) (every-at test2 64 k all2 K))
+  odd2 = other-is 0o133 outs2 all2 k (unfold outs2 in K)
 
 voted-other : (c : ℕ) (v : Float) → c < 2 → voted neg (1 - c) v ≡ neg (voted neg c v)
 voted-other zero v h = refl

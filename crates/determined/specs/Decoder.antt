@@ -2,8 +2,8 @@
 use Rattle.determined.specs.One.{Determined, one}
 use Rattle.decoder.proofs as decoder
 
-pub viterbi-one : Determined decoder.decoder.viterbi.ended decoder.decoder.viterbi.Reads.Post
+pub viterbi-one : Determined decoder.viterbi.ended decoder.viterbi.Reads.Post
 viterbi-one κs a x y p q i = (one p q i, x .1)
 
-pub decode-one : Determined decoder.decoder.decode.ended decoder.decoder.decode.Reads.Post
+pub decode-one : Determined decoder.decode.ended decoder.decode.Reads.Post
 decode-one κs a x y p q i = (record { bytes = one (p .0) (q .0) i; metric = one (p .1) (q .1) i }, x .1)

@@ -2,9 +2,6 @@
 use Rattle.determined.specs.One.{Determined, one}
 use Rattle.layout.proofs as layout
 
-pub layout-one : Determined layout.layout.ended layout.layout.Reads.Post
-layout-one κs a x y p q i = (one p q i, x .1)
-
 pub block-bits-one : Determined layout.block_bits.ended layout.block_bits.Reads.Post
 block-bits-one κs a x y p q i = (one p q i, x .1)
 

@@ -11,7 +11,7 @@ use lib.ListN.{getD, replicate}
 use lib.Ieee.{Float, binary32, round, div, ofInt}
 use lib.Ieee.Exact.{HasValue}
 use lib.Ieee.Back.{round-whole}
-use Rattle.layout.specs.Layout.{layoutKey}
+use Rattle.shuffle.specs.Shuffle.{layoutKey}
 use Rattle.chacha20.specs.Rfc8439.{word, blockOf}
 use Rattle.chacha20.specs.Blocks.{block-below}
 use Rattle.seq.specs.Tab.{tab, tab-same}

@@ -6,7 +6,7 @@ use native.Mathlib.Numerals.{add-one}
 use native.Mathlib.Omega.{arith}
 use lib.ListN.{length, getD, take, set, length-set}
 use lib.Seq.{take-suc, take-suc-set}
-use Rattle.encoder.specs.Ccsds131.{out1, out2, register, next, code, run}
+use Rattle.encoder.specs.Ccsds131.{out1, out2, register, nextState, code, run}
 
 take-set-two : {A : Type 0} (xs : List A) (t : ℕ) (a b : A) → 2 * t + 1 < length xs → take (2 * (t + 1)) (set (set xs (2 * t) a) (2 * t + 1) b) ≡ take (2 * t) xs ++ (a ∷ b ∷ [])
 take-set-two {A} xs t a b h =
@@ -17,15 +17,15 @@ take-set-two {A} xs t a b h =
     ∙ ap (λ (l : List A). l ++ (b ∷ [])) (ap (λ (n : ℕ). take n (set xs (2 * t) a)) f ∙ take-suc-set xs (2 * t) a (omega arith))
     ∙ append-assoc (take (2 * t) xs) (a ∷ []) (b ∷ [])
 
-run-more : (s : ℕ) (bs : List ℕ) (b : ℕ) → run s (bs ++ (b ∷ [])) ≡ next b (run s bs)
+run-more : (s : ℕ) (bs : List ℕ) (b : ℕ) → run s (bs ++ (b ∷ [])) ≡ nextState b (run s bs)
 unfolding run
 run-more s [] b = refl
-run-more s (x ∷ bs) b = run-more (next x s) bs b
+run-more s (x ∷ bs) b = run-more (nextState x s) bs b
 
 code-more : (s : ℕ) (bs : List ℕ) (b : ℕ) → code s (bs ++ (b ∷ [])) ≡ code s bs ++ (out1 (register b (run s bs)) ∷ out2 (register b (run s bs)) ∷ [])
 unfolding code run
 code-more s [] b = refl
-code-more s (x ∷ bs) b = ap (λ (l : List ℕ). out1 (register x s) ∷ out2 (register x s) ∷ l) (code-more (next x s) bs b)
+code-more s (x ∷ bs) b = ap (λ (l : List ℕ). out1 (register x s) ∷ out2 (register x s) ∷ l) (code-more (nextState x s) bs b)
 
 pub word-step : (bs coded : List ℕ) (t s r a b : ℕ) → t < length bs → 2 * t + 1 < length coded → s ≡ run 0 (take t bs) → r ≡ register (getD bs t 0) s → a ≡ out1 r → b ≡ out2 r
     → take (2 * t) coded ≡ code 0 (take t bs)

@@ -1,22 +1,27 @@
 // The encoder of the convolutional code that carries the record: the rate 1/2 code of constraint length 7 of CCSDS 131.0-B,
 // generators octal 171 and 133, without the inversion of its second output. Each bit of the record, most significant
 // first, and then six zeros give two coded bits. The definition is specs/Ccsds131.antt; the decoder is the crate
-// `convolution`.
+// `decoder`.
 ghost use mathlib.Core.Path.{_≡_};
 ghost use Prim.Native.Nat.{_+_, _*_, _≤_};
 ghost use lib.ListN.{length, getD};
-ghost use Rattle.encoder.specs.Ccsds131.{parity, encodeOf, bitsOf, sixZeros};
+ghost use Rattle.encoder.specs.Ccsds131.{parity, encodeOf, recordBits, sixZeros};
+
+// The record's bytes, and its coded bits: two for each of its bits and of the six zeros.
+pub const RECORD: usize = 46;
+
+pub const CODED: usize = 16 * RECORD + 12;
 
 // The generators, as octal numbers: the bits of the register that an output is the parity of.
 const GENERATOR_0: u32 = 0o171;
 
 const GENERATOR_1: u32 = 0o133;
 
-// The 748 coded bits of a record.
-pub fn encode(bytes: &[u8; 46]) -> [u8; 748]
+// The coded bits of a record.
+pub fn encode(bytes: &[u8; RECORD]) -> [u8; CODED]
     ensures { λ r. ⌜ r ≡ encodeOf (now (bytes .entry)) ⌝ }
 {
-    let mut coded = [0u8; 748];
+    let mut coded = [0u8; CODED];
     encode_into(bytes, &mut coded);
     coded
 }
@@ -40,7 +45,7 @@ fn encode_into(bytes: &[u8], coded: &mut [u8])
 
 // Bit t of the bytes, most significant first, and 0 behind them.
 fn bit_at(bytes: &[u8], t: usize) -> u8
-    ensures { λ r. ⌜ r ≡ getD (bitsOf (now (bytes .entry)) sixZeros) t 0 ⌝ }
+    ensures { λ r. ⌜ r ≡ getD (recordBits (now (bytes .entry)) sixZeros) t 0 ⌝ }
 {
     let i = t / 8;
     if i < bytes.len() {

@@ -12,7 +12,8 @@ use Rattle.record.specs.declared.Key.{Key}
 use Rattle.record.specs.declared.Reading.{Reading}
 use Rattle.record.specs.Record.{short, Outcome, refused, parsedOf}
 use Rattle.record.specs.Answers.{readAs}
-use Rattle.decoder.specs.Demand3.{decodedFrom}
+use Rattle.layout.specs.Layout.{blockCount}
+use Rattle.correction.specs.Demand3.{decodedFrom}
 
 -- what the record says that the votes decode to, and what is read in it
 abbrev pub decodedOutcome : List Float → Key → Outcome
@@ -20,10 +21,6 @@ decodedOutcome votes key = parsedOf short (decodedFrom votes) key
 
 abbrev pub textOf : List Float → Key → Reading
 textOf votes key = readAs (decodedOutcome votes key)
-
--- a vote for each of the picture's blocks
-abbrev pub blocks : ℕ
-blocks = 1024
 
 -- how many votes stand before the first that is not a number from -1 to 1: its place, or all of them
 unfoldable pub goodVotes : List Float → ℕ
@@ -33,8 +30,8 @@ goodVotes (v ∷ vs) = cond (inUnit v) (suc (goodVotes vs)) zero
 -- 6, 15, then the record
 unfoldable pub votesOutcome : List Float → Key → Outcome
 votesOutcome votes key =
-    cond (not (eqb (length votes) blocks)) (refused (BadLength (length votes)))
-    (cond (ltb (goodVotes votes) blocks) (refused (BadVote (goodVotes votes)))
+    cond (not (eqb (length votes) blockCount)) (refused (BadLength (length votes)))
+    (cond (ltb (goodVotes votes) blockCount) (refused (BadVote (goodVotes votes)))
     (decodedOutcome votes key))
 
 -- the answer: a refusal comes with length 0 and zeros for a text

@@ -12,9 +12,10 @@ use Rattle.float.specs.Calls.{inUnit}
 use Rattle.record.specs.declared.Key.{Key}
 use Rattle.record.specs.Record.{short, gives, parsedOf}
 use Rattle.record.specs.Answers.{readAs}
-use Rattle.decoder.specs.Damage.{Fate, kept, zeroed, turned, votedF, zeros, turns}
-use Rattle.decoder.specs.Demand3.{IsRecord, Laid, bitIn, corrects}
-use Rattle.extract.specs.Extract.{blocks, goodVotes, decodedOutcome, votesOutcome, votesReading}
+use Rattle.layout.specs.Layout.{blockCount}
+use Rattle.correction.specs.Demand3.{IsRecord, bitIn, Fate, kept, zeroed, reversed, votedF, zeroedCount, reversedCount, Laid}
+use Rattle.correction.specs.Theorems.{corrects}
+use Rattle.extract.specs.Extract.{goodVotes, decodedOutcome, votesOutcome, votesReading}
 
 -- ---- votes that are all good
 
@@ -24,9 +25,9 @@ all-good [] good = refl
 all-good (v ∷ vs) good = rw (good zero (omega arith), all-good vs (λ b h. good (suc b) (omega arith)))
 
 -- and a reader gets to the record
-pub reads-on : (votes : List Float) (key : Key) → length votes ≡ blocks → goodVotes votes ≡ length votes → votesOutcome votes key ≡ decodedOutcome votes key
+pub reads-on : (votes : List Float) (key : Key) → length votes ≡ blockCount → goodVotes votes ≡ length votes → votesOutcome votes key ≡ decodedOutcome votes key
 unfolding votesOutcome
-reads-on votes key many good = rw (eq-eqb (length votes) blocks many, le-ltb (goodVotes votes) blocks (omega (arith, good, many)))
+reads-on votes key many good = rw (eq-eqb (length votes) blockCount many, le-ltb (goodVotes votes) blockCount (omega (arith, good, many)))
 
 -- ---- the theorem
 
@@ -36,12 +37,12 @@ voted-good zero kept = refl
 voted-good (suc c) kept = refl
 voted-good c (zeroed true) = refl
 voted-good c (zeroed false) = refl
-voted-good zero turned = refl
-voted-good (suc c) turned = refl
+voted-good zero reversed = refl
+voted-good (suc c) reversed = refl
 
 -- a record that carries a text, laid over the blocks, e votes made zero and f others reversed, e + 2 f <= 9, is read as that text
 pub votes-correct : (xs text : List ℕ) (key : Key) (fates : List Fate) (votes : List Float) → IsRecord xs → parsedOf short xs key ≡ gives text
-    → length votes ≡ blocks → zeros fates + 2 * turns fates ≤ 9 → Laid xs fates votes → votesReading votes key ≡ readAs (gives text)
+    → length votes ≡ blockCount → zeroedCount fates + 2 * reversedCount fates ≤ 9 → Laid xs fates votes → votesReading votes key ≡ readAs (gives text)
 unfolding votesReading
 votes-correct xs text key fates votes whole carries many few laid =
     let good = all-good votes (λ b h. ap inUnit (laid .vote b (omega arith)) ∙ voted-good (bitIn xs b) (getD fates b kept)) in

@@ -1,22 +1,21 @@
 // The text that the votes of a picture's blocks give. For the crate `resilient`, whose votes are a picture's, and for those
 // who have votes only; the one place that knows the order in which reading from votes refuses. From the scope paper, which
 // specs/Extract.antt is.
+use layout::BLOCKS;
 use record::Key;
 use record::Reading;
 use refusal::Refusal;
 ghost use mathlib.Core.Path.{_≡_};
 ghost use lib.ListN.{length};
-ghost use Rattle.extract.specs.Extract.{textOf, blocks, goodVotes, votesReading};
-
-// A vote for each of the picture's blocks.
-const BLOCKS: usize = 1024;
+ghost use Rattle.layout.specs.Layout.{blockCount};
+ghost use Rattle.extract.specs.Extract.{textOf, goodVotes, votesReading};
 
 // The text of the record that the blocks' votes decode to, whatever the votes. Refused: what `parse_record` refuses.
 pub fn text_of(votes: &[f32; BLOCKS], key: Key) -> Reading
     ensures { λ r. ⌜ r ≡ textOf (now (votes .entry)) key ⌝ }
 {
     let soft = layout::gather(votes);
-    let bytes = decoder::decoder::viterbi(&soft);
+    let bytes = decoder::viterbi(&soft);
     record_parse::parse_record(&bytes, key)
 }
 
@@ -34,7 +33,7 @@ fn first_bad(votes: &[f32]) -> usize
 
 // The votes, where there are as many as blocks, as the array that they are.
 fn every_block(votes: &[f32]) -> [f32; BLOCKS]
-    requires { ⌜ length (now votes) ≡ blocks ⌝ }
+    requires { ⌜ length (now votes) ≡ blockCount ⌝ }
     ensures { λ r. ⌜ r ≡ now (votes .entry) ⌝ }
 {
     let mut all = [0.0f32; BLOCKS];

@@ -1,12 +1,12 @@
--- The layout: place j stands in block `blockOf j`. A constant list of 1,024 block numbers, the shuffle of 1,024 with the layout's key, and the list that undoes it. Definitions only.
+-- The layout: place j stands in block `blockOf j`. A constant list of 1,024 block numbers, which is a shuffle with a public
+-- key, and the list that undoes it. Definitions only.
 use mathlib.Core.List.{List, [], _∷_}
 use Prim.Native.Nat.{ℕ}
-use lib.ListN.{getD, replicate}
+use lib.ListN.{getD}
 
--- "iwm v3 public layout key" and eight zeros
-unfoldable pub layoutKey : List ℕ
-layoutKey =
-    0x69 ∷ 0x77 ∷ 0x6d ∷ 0x20 ∷ 0x76 ∷ 0x33 ∷ 0x20 ∷ 0x70 ∷ 0x75 ∷ 0x62 ∷ 0x6c ∷ 0x69 ∷ 0x63 ∷ 0x20 ∷ 0x6c ∷ 0x61 ∷ 0x79 ∷ 0x6f ∷ 0x75 ∷ 0x74 ∷ 0x20 ∷ 0x6b ∷ 0x65 ∷ 0x79 ∷ replicate 8 0
+-- the blocks, and so the places
+abbrev pub blockCount : ℕ
+blockCount = 1024
 
 unfoldable pub layout : List ℕ
 layout =

@@ -1,5 +1,5 @@
 pub mod Layout
-pub mod Permutation
 pub mod Places
+pub mod Permutation
+pub mod Sums
 pub mod Loops
-pub mod Examples

@@ -12,7 +12,7 @@ use lib.ListN.{length, getD, set, replicate, length-set}
 use lib.Seq.{ext-getD, getD-set-same, getD-set-other}
 use lib.Ieee.{Float, nan, binary32, add}
 use Rattle.seq.specs.Tab.{tab, tab-same, tab-replicate, getD-tab, length-tab}
-use Rattle.layout.specs.Layout.{blockOf, placeOf}
+use Rattle.layout.specs.Layout.{blockCount, blockOf, placeOf}
 use Rattle.layout.specs.Permutation.{layout-undo}
 use Rattle.layout.specs.Places.{blockBits, through, gather, gatherF}
 
@@ -23,15 +23,15 @@ module _ (f : ℕ → ℕ) where
 
   unfoldable pub scattered : ℕ → List ℕ
   unfolding at
-  scattered j = tab (at j) 1024
+  scattered j = tab (at j) blockCount
 
-  passed : (j b : ℕ) → b ≡ blockOf j → j < 1024 → at (j + 1) b ≡ f j
+  passed : (j b : ℕ) → b ≡ blockOf j → j < blockCount → at (j + 1) b ≡ f j
   unfolding at
   passed j b e h =
       let p : placeOf b ≡ j = ap placeOf e ∙ layout-undo .there j h in
       ap (λ (i : ℕ). cond (ltb i (j + 1)) (f i) 0) p ∙ ap (λ (t : Bool). cond t (f j) 0) (lt-ltb j (j + 1) (omega arith))
 
-  elsewhere : (j b : ℕ) → (b ≡ blockOf j → ⊥) → b < 1024 → at j b ≡ at (j + 1) b
+  elsewhere : (j b : ℕ) → (b ≡ blockOf j → ⊥) → b < blockCount → at j b ≡ at (j + 1) b
   unfolding at
   elsewhere j b n h = go (ltb (placeOf b) j) refl
     where
@@ -45,34 +45,34 @@ module _ (f : ℕ → ℕ) where
           let m : j + 1 ≤ placeOf b = (elim (native.Mathlib.Nat.eq-or-lt-of-le l) [ inl q ↦ absurd (apart (sym q)) | inr q ↦ (let z : j + 1 ≤ placeOf b = omega arith in z) ]) in
           rw (e, le-ltb (placeOf b) (j + 1) m) refl
 
-  pub scatter-more : (j : ℕ) → j < 1024 → set (scattered j) (blockOf j) (f j) ≡ scattered (j + 1)
+  pub scatter-more : (j : ℕ) → j < blockCount → set (scattered j) (blockOf j) (f j) ≡ scattered (j + 1)
   unfolding scattered
-  scatter-more j h = ext-getD 0 (set (tab (at j) 1024) (blockOf j) (f j)) (tab (at (j + 1)) 1024) (length-set (tab (at j) 1024) (blockOf j) (f j) ∙ length-tab (at j) 1024 ∙ sym (length-tab (at (j + 1)) 1024)) same
+  scatter-more j h = ext-getD 0 (set (tab (at j) blockCount) (blockOf j) (f j)) (tab (at (j + 1)) blockCount) (length-set (tab (at j) blockCount) (blockOf j) (f j) ∙ length-tab (at j) blockCount ∙ sym (length-tab (at (j + 1)) blockCount)) same
     where
-      same : (b : ℕ) → b < length (set (tab (at j) 1024) (blockOf j) (f j)) → getD (set (tab (at j) 1024) (blockOf j) (f j)) b 0 ≡ getD (tab (at (j + 1)) 1024) b 0
+      same : (b : ℕ) → b < length (set (tab (at j) blockCount) (blockOf j) (f j)) → getD (set (tab (at j) blockCount) (blockOf j) (f j)) b 0 ≡ getD (tab (at (j + 1)) blockCount) b 0
       same b l =
-          let B : b < 1024 = omega (arith, length-set (tab (at j) 1024) (blockOf j) (f j), length-tab (at j) 1024) in
-          go b B (eqb b (blockOf j)) refl ∙ sym (getD-tab (at (j + 1)) 1024 b 0 B)
+          let B : b < blockCount = omega (arith, length-set (tab (at j) blockCount) (blockOf j) (f j), length-tab (at j) blockCount) in
+          go b B (eqb b (blockOf j)) refl ∙ sym (getD-tab (at (j + 1)) blockCount b 0 B)
         where
-          go : (b : ℕ) → b < 1024 → (t : Bool) → eqb b (blockOf j) ≡ t → getD (set (tab (at j) 1024) (blockOf j) (f j)) b 0 ≡ at (j + 1) b
+          go : (b : ℕ) → b < blockCount → (t : Bool) → eqb b (blockOf j) ≡ t → getD (set (tab (at j) blockCount) (blockOf j) (f j)) b 0 ≡ at (j + 1) b
           go b B true e =
               let q : b ≡ blockOf j = eqb-true b (blockOf j) e in
-              ap (λ (i : ℕ). getD (set (tab (at j) 1024) (blockOf j) (f j)) i 0) q
-              ∙ getD-set-same (tab (at j) 1024) (blockOf j) (f j) 0 (rw (length-tab (at j) 1024) (layout-undo .lo j h))
+              ap (λ (i : ℕ). getD (set (tab (at j) blockCount) (blockOf j) (f j)) i 0) q
+              ∙ getD-set-same (tab (at j) blockCount) (blockOf j) (f j) 0 (rw (length-tab (at j) blockCount) (layout-undo .lo j h))
               ∙ sym (passed j b q h)
           go b B false e =
               let n = eqb-false b (blockOf j) e in
-              getD-set-other (tab (at j) 1024) (blockOf j) b (f j) 0 n ∙ getD-tab (at j) 1024 b 0 B ∙ elsewhere j b n B
+              getD-set-other (tab (at j) blockCount) (blockOf j) b (f j) 0 n ∙ getD-tab (at j) blockCount b 0 B ∙ elsewhere j b n B
 
-  pub scatter-none : replicate 1024 0 ≡ scattered 0
+  pub scatter-none : replicate blockCount 0 ≡ scattered 0
   unfolding scattered at
-  scatter-none = sym (tab-same (at 0) (λ (b : ℕ). 0) 1024 (λ b h. ap (λ (t : Bool). cond t (f (placeOf b)) 0) (le-ltb (placeOf b) 0 (omega arith))) ∙ tab-replicate 0 1024)
+  scatter-none = sym (tab-same (at 0) (λ (b : ℕ). 0) blockCount (λ b h. ap (λ (t : Bool). cond t (f (placeOf b)) 0) (le-ltb (placeOf b) 0 (omega arith))) ∙ tab-replicate 0 blockCount)
 
-  pub scatter-all : scattered 1024 ≡ tab (λ b. f (placeOf b)) 1024
+  pub scatter-all : scattered blockCount ≡ tab (λ b. f (placeOf b)) blockCount
   unfolding scattered at
-  scatter-all = tab-same (at 1024) (λ b. f (placeOf b)) 1024 (λ b h. ap (λ (t : Bool). cond t (f (placeOf b)) 0) (lt-ltb (placeOf b) 1024 (layout-undo .bo b h)))
+  scatter-all = tab-same (at blockCount) (λ b. f (placeOf b)) blockCount (λ b h. ap (λ (t : Bool). cond t (f (placeOf b)) 0) (lt-ltb (placeOf b) blockCount (layout-undo .bo b h)))
 
-pub laid-all : (p : ℕ) (coded : List ℕ) → scattered (λ j. getD coded (j % p) 0) 1024 ≡ blockBits p coded
+pub laid-all : (p : ℕ) (coded : List ℕ) → scattered (λ j. getD coded (j % p) 0) blockCount ≡ blockBits p coded
 unfolding blockBits
 laid-all p coded = scatter-all (λ j. getD coded (j % p) 0)
 

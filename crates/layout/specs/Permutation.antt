@@ -6,7 +6,7 @@ use lib.Dec.{T, eqb, ltb, eqb→eq, ltb→lt}
 use lib.Ieee.Fits.{and-l, and-r}
 use lib.ListN.{length}
 use Rattle.seq.specs.Table.{every, at}
-use Rattle.layout.specs.Layout.{layout, places, blockOf, placeOf}
+use Rattle.layout.specs.Layout.{blockCount, layout, places, blockOf, placeOf}
 
 -- l and back undo each other below n
 pub record Undo (l back : ℕ → ℕ) (n : ℕ) : Type 0 where
@@ -16,10 +16,10 @@ pub record Undo (l back : ℕ → ℕ) (n : ℕ) : Type 0 where
   pub again : (b : ℕ) → b < n → l (back b) ≡ b
 
 block-rule : ℕ → ℕ → Bool
-block-rule j b = ltb b 1024 && eqb (placeOf b) j
+block-rule j b = ltb b blockCount && eqb (placeOf b) j
 
 place-rule : ℕ → ℕ → Bool
-place-rule b j = ltb j 1024 && eqb (blockOf j) b
+place-rule b j = ltb j blockCount && eqb (blockOf j) b
 
 blocks-pass : T (every block-rule 0 layout)
 unfolding layout places block-rule
@@ -29,26 +29,26 @@ places-pass : T (every place-rule 0 places)
 unfolding layout places place-rule
 places-pass = tt
 
-layout-length : length layout ≡ 1024
+layout-length : length layout ≡ blockCount
 unfolding layout
 layout-length = refl
 
-places-length : length places ≡ 1024
+places-length : length places ≡ blockCount
 unfolding places
 places-length = refl
 
-block-at : (j : ℕ) → j < 1024 → T (ltb (blockOf j) 1024 && eqb (placeOf (blockOf j)) j)
+block-at : (j : ℕ) → j < blockCount → T (ltb (blockOf j) blockCount && eqb (placeOf (blockOf j)) j)
 unfolding block-rule
 block-at j h = at block-rule layout 0 blocks-pass j (rw layout-length h)
 
-place-at : (b : ℕ) → b < 1024 → T (ltb (placeOf b) 1024 && eqb (blockOf (placeOf b)) b)
+place-at : (b : ℕ) → b < blockCount → T (ltb (placeOf b) blockCount && eqb (blockOf (placeOf b)) b)
 unfolding place-rule
 place-at b h = at place-rule places 0 places-pass b (rw places-length h)
 
-pub layout-undo : Undo blockOf placeOf 1024
+pub layout-undo : Undo blockOf placeOf blockCount
 layout-undo = record {
-  lo = λ j h. ltb→lt (blockOf j) 1024 (and-l (ltb (blockOf j) 1024) (eqb (placeOf (blockOf j)) j) (block-at j h));
-  bo = λ b h. ltb→lt (placeOf b) 1024 (and-l (ltb (placeOf b) 1024) (eqb (blockOf (placeOf b)) b) (place-at b h));
-  there = λ j h. eqb→eq (placeOf (blockOf j)) j (and-r (ltb (blockOf j) 1024) (eqb (placeOf (blockOf j)) j) (block-at j h));
-  again = λ b h. eqb→eq (blockOf (placeOf b)) b (and-r (ltb (placeOf b) 1024) (eqb (blockOf (placeOf b)) b) (place-at b h));
+  lo = λ j h. ltb→lt (blockOf j) blockCount (and-l (ltb (blockOf j) blockCount) (eqb (placeOf (blockOf j)) j) (block-at j h));
+  bo = λ b h. ltb→lt (placeOf b) blockCount (and-l (ltb (placeOf b) blockCount) (eqb (blockOf (placeOf b)) b) (place-at b h));
+  there = λ j h. eqb→eq (placeOf (blockOf j)) j (and-r (ltb (blockOf j) blockCount) (eqb (placeOf (blockOf j)) j) (block-at j h));
+  again = λ b h. eqb→eq (blockOf (placeOf b)) b (and-r (ltb (placeOf b) blockCount) (eqb (blockOf (placeOf b)) b) (place-at b h));
 }

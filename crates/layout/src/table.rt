@@ -1,6 +1,8 @@
 // The layout: the shuffle of 1,024 with the key "iwm v3 public layout key" and eight zeros, as the Rust makes it
 // (oracle/compare holds both uses of it to the Rust).
-pub const LAYOUT: [u16; 1024] = [
+use crate::BLOCKS;
+
+pub const LAYOUT: [u16; BLOCKS] = [
     428,
     273,
     782,

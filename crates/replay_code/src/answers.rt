@@ -1,12 +1,14 @@
 // The stored lists: records with their coded bits, and votes with the record and the metric that they give.
 ghost use Rattle.replay_lists.specs.Fields.{InText};
+use encoder::CODED;
+use encoder::RECORD;
 use replay_lists::Field;
 use replay_lists::stored::bits_of_f32;
 use replay_lists::stored::f32_of;
 use replay_lists::stored::word;
 
-fn same_coded(coded: &[u8; 748], packed: &[u8; 94]) -> bool {
-    for i in 0..748usize {
+fn same_coded(coded: &[u8; CODED], packed: &[u8; 94]) -> bool {
+    for i in 0..CODED {
         if coded[i] != (packed[i / 8] >> (7 - i % 8)) % 2 {
             return false;
         }
@@ -17,15 +19,15 @@ fn same_coded(coded: &[u8; 748], packed: &[u8; 94]) -> bool {
 fn encodes(text: &[u8], bytes: Field, coded: Field) -> bool
     requires { ⌜ InText (now text) bytes × InText (now text) coded ⌝ }
 {
-    let mut plain = [0u8; 46];
+    let mut plain = [0u8; RECORD];
     let mut packed = [0u8; 94];
     let one = replay_lists::hex_bytes(text, bytes, &mut plain);
     let other = replay_lists::hex_bytes(text, coded, &mut packed);
     one.good && other.good && same_coded(&encoder::encode(&plain), &packed)
 }
 
-fn same_record(a: &[u8; 46], b: &[u8; 46]) -> bool {
-    for i in 0..46usize {
+fn same_record(a: &[u8; RECORD], b: &[u8; RECORD]) -> bool {
+    for i in 0..RECORD {
         if a[i] != b[i] {
             return false;
         }
@@ -33,9 +35,9 @@ fn same_record(a: &[u8; 46], b: &[u8; 46]) -> bool {
     true
 }
 
-fn votes(raw: &[u8; 2992]) -> [f32; 748] {
-    let mut soft = [0.0f32; 748];
-    for i in 0..748usize {
+fn votes(raw: &[u8; 2992]) -> [f32; CODED] {
+    let mut soft = [0.0f32; CODED];
+    for i in 0..CODED {
         soft[i] = f32_of(word(raw, 4 * i));
     }
     soft
@@ -45,11 +47,11 @@ fn decodes(text: &[u8], soft: Field, bytes: Field, metric: Field) -> bool
     requires { ⌜ InText (now text) soft × InText (now text) bytes × InText (now text) metric ⌝ }
 {
     let mut raw = [0u8; 2992];
-    let mut expected = [0u8; 46];
+    let mut expected = [0u8; RECORD];
     let one = replay_lists::hex_bytes(text, soft, &mut raw);
     let other = replay_lists::hex_bytes(text, bytes, &mut expected);
     let last = replay_lists::hex_number(text, metric);
-    let d = decoder::decoder::decode(&votes(&raw));
+    let d = decoder::decode(&votes(&raw));
     let found = d.bytes;
     one.good
         && other.good

@@ -3,6 +3,8 @@
 // Rust has no function for a single draw, so the answers for the draw on chosen values (accepted.txt) are the
 // oracle's: it computes them in oracle/judge/src/shuffles.rs by the formula that stands within the Rust's shuffle.
 // A case is two strings of bytes, the operand and the result, in which a number has its high byte first.
+use encoder::CODED;
+use layout::BLOCKS;
 use replay_lists::Field;
 use replay_lists::stored::f32_of;
 use replay_lists::stored::number;
@@ -45,12 +47,43 @@ fn key_of(raw: &[u8; 50]) -> [u8; 32] {
     key
 }
 
-// A key, and the 1,024 blocks: those of the constant that `block_bits` and `gather` go by, and those of the shuffle.
+// The lower or the higher byte of each coded bit's number, in the place of its bit.
+fn numbers(high: bool) -> [u8; CODED] {
+    let mut coded = [0u8; CODED];
+    for k in 0..CODED {
+        coded[k] = if high {
+            (k / 256) as u8
+        } else {
+            (k % 256) as u8
+        };
+    }
+    coded
+}
+
+// Whether the block of each place, as listed, carries what stands for the place's coded bit.
+fn carries(blocks: &[u8; 8202], coded: &[u8; CODED]) -> bool {
+    let bits = layout::block_bits(coded);
+    for j in 0..BLOCKS {
+        let b = pair(blocks[2 * j], blocks[2 * j + 1]) as usize;
+        if BLOCKS <= b {
+            return false;
+        }
+        if bits[b] != coded[j % CODED] {
+            return false;
+        }
+    }
+    true
+}
+
+// A key, and the 1,024 blocks: those of the shuffle, and those over which the layout lays the coded bits, told apart by
+// the two bytes of their numbers.
 fn lays(raw: &[u8; 50], expected: &[u8; 8202]) -> bool {
-    let table = layout::layout();
-    let mut made = [0u16; 1024];
-    let found = shuffle::shuffle(&key_of(raw), 1024, 1024, &mut made);
-    found == 1024 && same_entries(&table, expected, 0) && same_entries(&made, expected, 0)
+    let mut made = [0u16; BLOCKS];
+    let found = shuffle::shuffle(&key_of(raw), BLOCKS, BLOCKS, &mut made);
+    found == BLOCKS
+        && same_entries(&made, expected, 0)
+        && carries(expected, &numbers(false))
+        && carries(expected, &numbers(true))
 }
 
 // The number of a group, and its sixteen numbers by their bits. None of them is a zero, so that equal ones have equal bits.

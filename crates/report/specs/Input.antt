@@ -12,7 +12,8 @@ use Rattle.record.specs.declared.Key.{Key}
 use Rattle.record.specs.declared.Reading.{Reading}
 use Rattle.record.specs.Record.{refused}
 use Rattle.record.specs.Answers.{readAs}
-use Rattle.extract.specs.Extract.{blocks, votesReading}
+use Rattle.layout.specs.Layout.{blockCount}
+use Rattle.extract.specs.Extract.{votesReading}
 
 -- vote k is the f32 whose pattern is word k of the bytes, the lowest byte first
 unfoldable pub voteFrom : List ℕ → ℕ → Float
@@ -24,4 +25,4 @@ noKey = record { given = false; bytes = replicate 32 0 }
 unfoldable pub bytesReading : List ℕ → Reading
 bytesReading bytes =
     cond (not (eqb (length bytes) 4096)) (readAs (refused (BadLength (length bytes))))
-    (votesReading (tab (voteFrom bytes) blocks) noKey)
+    (votesReading (tab (voteFrom bytes) blockCount) noKey)

@@ -28,7 +28,8 @@ use Rattle.record.specs.declared.Reading.{Reading}
 use Rattle.record.specs.Record.{short, saltAt, lengthAt, textAt, outerAt, numberAt, intact, covered, Outcome, refused, gives, textIn, sound, insideOf, parsedOf}
 use Rattle.record.specs.Answers.{readAs}
 use Rattle.record.specs.Laws.{sound-length}
-use Rattle.extract.specs.Extract.{blocks, goodVotes, votesOutcome, votesReading}
+use Rattle.layout.specs.Layout.{blockCount}
+use Rattle.extract.specs.Extract.{goodVotes, votesOutcome, votesReading}
 use Rattle.report.specs.Input.{voteFrom, noKey, bytesReading}
 use Rattle.report.specs.Line.{digit, decimalDigits, decimal, pairs, hex, lineRoom, lineAs, Lends}
 
@@ -131,15 +132,15 @@ parsed-short bs key =
 votes-short : (votes : List Float) (key : Key) → Short (votesOutcome votes key)
 unfolding votesOutcome
 votes-short votes key =
-    either (not (eqb (length votes) blocks)) _ _ (none (BadLength (length votes)))
-    (either (ltb (goodVotes votes) blocks) _ _ (none (BadVote (goodVotes votes))) (parsed-short _ key))
+    either (not (eqb (length votes) blockCount)) _ _ (none (BadLength (length votes)))
+    (either (ltb (goodVotes votes) blockCount) _ _ (none (BadVote (goodVotes votes))) (parsed-short _ key))
 
 pub bytes-fit : (bytes : List ℕ) → FitsLine (bytesReading bytes)
 unfolding bytesReading votesReading
 bytes-fit bytes = go (eqb (length bytes) 4096)
   where
-    go : (t : Bool) → FitsLine (cond (not t) (readAs (refused (BadLength (length bytes)))) (votesReading (tab (voteFrom bytes) blocks) noKey))
-    go true = votes-short (tab (voteFrom bytes) blocks) noKey .fits
+    go : (t : Bool) → FitsLine (cond (not t) (readAs (refused (BadLength (length bytes)))) (votesReading (tab (voteFrom bytes) blockCount) noKey))
+    go true = votes-short (tab (voteFrom bytes) blockCount) noKey .fits
     go false = none (BadLength (length bytes)) .fits
 
 -- ---- the code's line

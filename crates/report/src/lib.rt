@@ -10,7 +10,7 @@ ghost use mathlib.Core.Path.{_≡_};
 ghost use Prim.Native.Nat.{_≤_};
 ghost use lib.ListN.{length};
 ghost use Rattle.seq.specs.Tab.{tab};
-ghost use Rattle.extract.specs.Extract.{blocks};
+ghost use Rattle.layout.specs.Layout.{blockCount};
 ghost use Rattle.report.specs.Input.{voteFrom, bytesReading};
 ghost use Rattle.report.specs.Line.{textLine, refusedLine, lineOf, lineAs, Lends};
 
@@ -31,7 +31,7 @@ pub struct Line {
 
 fn votes_in(bytes: &[u8]) -> [f32; 1024]
     requires { ⌜ length (now bytes) ≡ 4096 ⌝ }
-    ensures { λ r. ⌜ r ≡ tab (voteFrom (now (bytes .entry))) blocks ⌝ }
+    ensures { λ r. ⌜ r ≡ tab (voteFrom (now (bytes .entry))) blockCount ⌝ }
 {
     let mut votes = [0.0f32; 1024];
     for k in 0..1024usize {

@@ -14,7 +14,7 @@ use Rattle.record.specs.Record.{short, recordOf, refused, builtOf}
 use Rattle.record.specs.Answers.{readAs}
 use Rattle.record_build.specs.Answers.{builtAs}
 use Rattle.layout.specs.Places.{blockBits}
-use Rattle.encoder.specs.Ccsds131.{encodeOf}
+use Rattle.encoder.specs.Ccsds131.{codedBits, encodeOf}
 use Rattle.picture.specs.declared.Picture.{Picture}
 use Rattle.admission.specs.Admission.{writeAdmission, readAdmission}
 use Rattle.carrier.specs.Carrier.{cleared, markedSamples, pictureVotes}
@@ -29,7 +29,7 @@ ifDone (Refused r) new lent = lent
 
 -- the bit that each block carries
 unfoldable pub textBits : List ℕ → Lock → List ℕ
-textBits text lock = blockBits 748 (encodeOf (recordOf short text lock))
+textBits text lock = blockBits codedBits (encodeOf (recordOf short text lock))
 
 pub record Written : Type 0 where
   pub answer : Answer

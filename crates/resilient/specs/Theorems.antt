@@ -25,7 +25,8 @@ use Rattle.admission.specs.Admission.{readAdmission}
 use Rattle.admission.specs.Admitted.{write-admitted, read-admitted}
 use Rattle.refusal.specs.Laws.{first-done}
 use Rattle.carrier.specs.Carrier.{markedSamples, pictureVotes}
-use Rattle.extract.specs.Extract.{blocks, votesReading}
+use Rattle.layout.specs.Layout.{blockCount}
+use Rattle.extract.specs.Extract.{votesReading}
 use Rattle.extract.specs.Theorems.{all-good, reads-on}
 use Rattle.resilient.specs.Resilient.{writeAnswer, writtenOf, readingOf}
 use Rattle.resilient.specs.Sized.{admitted-sized}
@@ -55,7 +56,7 @@ alpha-kept text lock p samples work four y x Y X = go (writeAnswer text lock p (
 -- ---- reading
 
 module _ (key : Key) (p : Picture) (samples : List ℕ) (work : List Float) (bytes : Bytes samples) (done : readAdmission p (length samples) (length work) ≡ Done) where
-  pub votes-in-unit : (b : ℕ) → b < blocks → inUnit (getD (pictureVotes p samples) b nan) ≡ true
+  pub votes-in-unit : (b : ℕ) → b < blockCount → inUnit (getD (pictureVotes p samples) b nan) ≡ true
   unfolding pictureVotes
   votes-in-unit =
       let may = read-admitted p (length samples) (length work) done in
@@ -65,5 +66,5 @@ module _ (key : Key) (p : Picture) (samples : List ℕ) (work : List Float) (byt
   unfolding votesReading pictureVotes
   read-by-votes =
       let votes = pictureVotes p samples in
-      let many : length votes ≡ blocks = length-votes (planeOf (p .width) (p .height) (p .channels) samples) in
+      let many : length votes ≡ blockCount = length-votes (planeOf (p .width) (p .height) (p .channels) samples) in
       read-done key p samples work done .0 ∙ sym (ap readAs (reads-on votes key many (all-good votes (λ b h. votes-in-unit b (omega arith)))))

@@ -4,9 +4,25 @@ use mathlib.Core.Bool.{true, false}
 use mathlib.Core.List.{[], _∷_, _++_}
 use Prim.Native.Nat.{ℕ, _-_, _^_}
 use lib.Dec.{ltb}
-use lib.ListN.{getD, replicate}
+use lib.ListN.{getD, take, replicate}
+use Rattle.seq.specs.Tab.{tab}
+use Rattle.chacha20.specs.Rfc8439.{
+  quarter,
+  quarterRound,
+  innerBlock,
+  rounds,
+  word,
+  initial,
+  sums,
+  littleEndian,
+  serialized,
+  blockFrom,
+  blockOf,
+  keystream,
+}
+use Rattle.layout.specs.Layout.{blockCount, layout}
 use Rattle.shuffle.specs.declared.Drawn.the-variants.{Found, End}
-use Rattle.shuffle.specs.Shuffle.{valueAt, limit, drawn, exchanged, made}
+use Rattle.shuffle.specs.Shuffle.{valueAt, limit, drawn, exchanged, made, shuffled, layoutKey}
 
 -- a range of 1 and the powers of two take every number
 limit-whole : (limit 1 ≡ 2 ^ 64) × (limit 2 ≡ 2 ^ 64) × (limit 1024 ≡ 2 ^ 64) × (limit 4096 ≡ 2 ^ 64)
@@ -44,3 +60,8 @@ drawn-again = (refl, refl, refl)
 exchanged-once : made highest 2 0 8 (7 ∷ 8 ∷ 9 ∷ 6 ∷ []) ≡ 9 ∷ 8 ∷ []
 unfolding valueAt limit drawn exchanged made highest
 exchanged-once = refl
+
+-- the layout begins as the shuffle of 1,024 with its key does; that it is that shuffle to its end is run
+layout-begins : shuffled layoutKey blockCount 2 ≡ take 2 layout
+unfolding layout layoutKey shuffled made drawn valueAt limit exchanged tab keystream blockOf blockFrom serialized littleEndian sums rounds innerBlock quarterRound quarter initial word
+layout-begins = refl

@@ -1,8 +1,8 @@
--- The keyed shuffle. Document 01: "for i from 0, range = len - i; draw 8 keystream bytes little-endian; draw again while the
+-- The keyed shuffle. The scope: "for i from 0, range = len - i; draw 8 keystream bytes little-endian; draw again while the
 -- value is not below the largest multiple of range that is at most 2^64; r = value mod range; exchange entries i and i + r of
--- the list 0, 1, 2 and so on." Definitions for any stream and any length of list, and what `shuffle` gives. Definitions only.
+-- the list 0, 1, 2 and so on." For any stream and any length of list, and what `shuffle` gives. Definitions only.
 use mathlib.Core.Bool.{Bool, true, false, cond}
-use mathlib.Core.List.{List, []}
+use mathlib.Core.List.{List, [], _∷_}
 use Prim.Native.Nat.{ℕ, zero, suc, _+_, _-_, _*_, _/_, _%_, _^_, min}
 use lib.Dec.{leb, ltb}
 use lib.ListN.{length, getD, set, take, replicate}
@@ -69,3 +69,9 @@ shuffleOf key len count room = cond (leb len longest) (shuffled key len (min (mi
 -- the places lent: the entries, and 0 in the places beyond the last
 unfoldable pub lentFor : ℕ → List ℕ → List ℕ
 lentFor room entries = tab (λ k. getD entries k 0) room
+
+-- the public key of the layout, which is the shuffle of 1,024 with it: "iwm v3 public layout key" and eight zeros
+unfoldable pub layoutKey : List ℕ
+layoutKey =
+    0x69 ∷ 0x77 ∷ 0x6d ∷ 0x20 ∷ 0x76 ∷ 0x33 ∷ 0x20 ∷ 0x70 ∷ 0x75 ∷ 0x62 ∷ 0x6c ∷ 0x69 ∷ 0x63 ∷ 0x20
+    ∷ 0x6c ∷ 0x61 ∷ 0x79 ∷ 0x6f ∷ 0x75 ∷ 0x74 ∷ 0x20 ∷ 0x6b ∷ 0x65 ∷ 0x79 ∷ replicate 8 0

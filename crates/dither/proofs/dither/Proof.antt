@@ -4,7 +4,7 @@ use mathlib.Core.Path.{ap, _∙_}
 use mathlib.Core.List.{List}
 use Prim.Native.Nat.{ℕ}
 use Rattle.seq.specs.Tab.{tab}
-use Rattle.layout.specs.Layout.{layoutKey}
+use Rattle.shuffle.specs.Shuffle.{layoutKey}
 use Rattle.dither.specs.Dither.{ditherNonce, dithered, group-of}
 use Rattle.dither.proofs.dither.Statement.{statement}
 use Rattle.dither.proofs.dither.Tie as tie

@@ -4,7 +4,8 @@ use borrow.Author.Tests.{eq-eqb, ne-eqb, lt-ltb, le-ltb}
 use native.Mathlib.Omega.{arith}
 use lib.ListN.{length}
 use denote.Ref.{now}
-use Rattle.extract.specs.Extract.{blocks, votesOutcome, votesReading}
+use Rattle.layout.specs.Layout.{blockCount}
+use Rattle.extract.specs.Extract.{votesOutcome, votesReading}
 use Rattle.extract.proofs.read_votes.Statement.{statement}
 use Rattle.extract.proofs.read_votes.Tie as tie
 
@@ -12,7 +13,7 @@ returns : tie.Need-returns
 unfolding votesReading votesOutcome
 returns c =
     let votes = now (c .before .before .before .args .votes) in
-    rw (c .not-read .ensures, ne-eqb (length votes) blocks (c .before .if1 .taken))
+    rw (c .not-read .ensures, ne-eqb (length votes) blockCount (c .before .if1 .taken))
 
 returns-2 : tie.Need-returns-2
 unfolding votesReading votesOutcome
@@ -20,7 +21,7 @@ returns-2 c =
     let found = c .before .before in
     let many = found .before in
     let votes = now (many .before .before .args .votes) in
-    rw (c .not-read2 .ensures, ← found .first-bad .ensures, eq-eqb (length votes) blocks (many .if1 .left), lt-ltb (found .first-bad .result) blocks (omega arith))
+    rw (c .not-read2 .ensures, ← found .first-bad .ensures, eq-eqb (length votes) blockCount (many .if1 .left), lt-ltb (found .first-bad .result) blockCount (omega arith))
 
 returns-3 : tie.Need-returns-3
 unfolding votesReading votesOutcome
@@ -29,7 +30,7 @@ returns-3 c =
     let found = all .before .before in
     let many = found .before in
     let votes = now (many .before .before .args .votes) in
-    rw (c .text-of .ensures, all .every-block .ensures, ← found .first-bad .ensures, eq-eqb (length votes) blocks (many .if1 .left), le-ltb (found .first-bad .result) blocks (omega arith))
+    rw (c .text-of .ensures, all .every-block .ensures, ← found .first-bad .ensures, eq-eqb (length votes) blockCount (many .if1 .left), le-ltb (found .first-bad .result) blockCount (omega arith))
 
 pub read-votes-spec : {M : Type 1} → statement M
 read-votes-spec =

@@ -1,6 +1,6 @@
 -- What the three calls promise, one in the other.
 use borrow.Author.Needs.{needs}
-use Rattle.decoder.specs.Demand3.{decodedFrom}
+use Rattle.correction.specs.Demand3.{decodedFrom}
 use Rattle.extract.proofs.text_of.Statement.{statement}
 use Rattle.extract.proofs.text_of.Tie as tie
 

@@ -4,7 +4,8 @@ use Prim.Native.Nat.{_-_, _≤_, _<_}
 use native.Mathlib.Omega.{arith}
 use lib.Ieee.{nan, ofBits}
 use lib.ListN.{length, length-set}
-use Rattle.layout.specs.Layout.{blockOf}
+use Rattle.encoder.specs.Ccsds131.{codedBits}
+use Rattle.layout.specs.Layout.{blockCount, blockOf}
 use Rattle.layout.specs.Places.{gather, gatherF, gathered, through}
 use Rattle.layout.specs.Loops.{gather-more}
 use borrow.Author.Needs.{needs}
@@ -12,10 +13,10 @@ use Rattle.layout.proofs.sum_places.Statement.{statement}
 use Rattle.layout.proofs.sum_places.Tie as tie
 
 abbrev Inv-loop : tie.InvT-loop
-Inv-loop votes table soft₀ j₀ soft j = (j ≤ 1024) × (length soft ≡ 748) × (soft ≡ gatherF 748 j (through blockOf 1024 nan votes))
+Inv-loop votes table soft₀ j₀ soft j = (j ≤ blockCount) × (length soft ≡ codedBits) × (soft ≡ gatherF codedBits j (through blockOf blockCount nan votes))
 
 abbrev μ-loop : tie.MeasureT-loop
-μ-loop votes table soft₀ j₀ soft j = 1024 - j
+μ-loop votes table soft₀ j₀ soft j = blockCount - j
 
 loop-holds : tie.Need-loop-holds Inv-loop μ-loop
 unfolding gather ofBits
@@ -25,14 +26,14 @@ loop-again : tie.Need-loop-again Inv-loop μ-loop
 loop-again c =
     let l = c .before .before .before .loop in
     let votes = c .before .before .before .before .args .votes .now in
-    let h : l .j < 1024 = omega arith in
-    (omega arith, simp length-set (l .inv .1), rw (c .before .block .ensures .0) (gather-more 748 (l .j) 1024 blockOf votes (l .soft) h (l .inv .2)))
+    let h : l .j < blockCount = omega arith in
+    (omega arith, simp length-set (l .inv .1), rw (c .before .block .ensures .0) (gather-more codedBits (l .j) blockCount blockOf votes (l .soft) h (l .inv .2)))
 
 returns : tie.Need-returns Inv-loop μ-loop
 unfolding gathered
 returns c =
     let l = c .before .loop in
-    let e : l .j ≡ 1024 = omega arith in
+    let e : l .j ≡ blockCount = omega arith in
     rw e at (l .inv .2)
 
 pub sum-places-spec : {M : Type 1} → statement M

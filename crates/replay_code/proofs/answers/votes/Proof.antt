@@ -3,14 +3,15 @@ use Prim.Native.Nat.{_≤_, _-_}
 use mathlib.Core.Path.{_≡_}
 use lib.ListN.{length}
 use borrow.Author.Needs.{needs}
+use Rattle.encoder.specs.Ccsds131.{codedBits}
 use Rattle.replay_code.proofs.answers.votes.Statement.{statement}
 use Rattle.replay_code.proofs.answers.votes.Tie as tie
 
 abbrev Inv-loop : tie.InvT-loop
-Inv-loop raw soft₀ i₀ soft i = (i ≤ 748) × (length soft ≡ 748)
+Inv-loop raw soft₀ i₀ soft i = (i ≤ codedBits) × (length soft ≡ codedBits)
 
 abbrev μ-loop : tie.MeasureT-loop
-μ-loop raw soft₀ i₀ soft i = 748 - i
+μ-loop raw soft₀ i₀ soft i = codedBits - i
 
 pub votes-spec : {M : Type 1} → statement M
 votes-spec =

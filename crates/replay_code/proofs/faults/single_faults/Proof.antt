@@ -3,14 +3,15 @@ use Prim.Native.Nat.{_≤_, _-_}
 use mathlib.Core.Path.{_≡_}
 use lib.ListN.{length}
 use borrow.Author.Needs.{needs}
+use Rattle.layout.specs.Layout.{blockCount}
 use Rattle.replay_code.proofs.faults.single_faults.Statement.{statement}
 use Rattle.replay_code.proofs.faults.single_faults.Tie as tie
 
 abbrev Inv-loop : tie.InvT-loop
-Inv-loop bytes fate votes₀ wrong₀ b₀ votes wrong b = (b ≤ 1024) × (length votes ≡ 1024)
+Inv-loop bytes fate votes₀ wrong₀ b₀ votes wrong b = (b ≤ blockCount) × (length votes ≡ blockCount)
 
 abbrev μ-loop : tie.MeasureT-loop
-μ-loop bytes fate votes₀ wrong₀ b₀ votes wrong b = 1024 - b
+μ-loop bytes fate votes₀ wrong₀ b₀ votes wrong b = blockCount - b
 
 pub single-faults-spec : {M : Type 1} → statement M
 single-faults-spec =

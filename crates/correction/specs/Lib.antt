@@ -1,0 +1,15 @@
+pub mod Demand3
+pub mod Theorems
+pub mod Order
+pub mod Rearrange
+pub mod Linear
+pub mod RecordBits
+pub mod Best
+pub mod Carried
+pub mod Distance
+pub mod Gathered
+pub mod Puncture
+pub mod Corrects
+pub mod General
+pub mod Blocks
+pub mod FirstEdition
