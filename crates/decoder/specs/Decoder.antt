@@ -6,7 +6,7 @@ use Prim.Native.Nat.{ℕ, zero, suc, _+_, _*_, _/_, _%_}
 use lib.ListN.{getD, replicate}
 use lib.Ieee.{Float, nan, inf, fin, binary32, add, neg, lt}
 use lib.IntN.{ℤ, pos, negℤ}
-use Rattle.float.specs.Score.{Score, out, at, plus, ltS}
+use Rattle.float_laws.specs.Score.{Score, out, at, plus, ltS}
 use Rattle.seq.specs.Tab.{tab}
 use Rattle.encoder.specs.Ccsds131.{out1, out2}
 
