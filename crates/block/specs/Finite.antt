@@ -18,16 +18,16 @@ use lib.Ieee.Scale.{finite}
 use Rattle.seq.specs.Table.{every, at}
 use Rattle.seq.specs.Sum.{sumTo}
 use Rattle.float.specs.Base.{zero-, two-to}
-use Rattle.float.specs.Bounds.{Within, Holds, holds-whole, within-more, within-finite, add-within, sub-within, mul-within, div-within, roundAway-within, sum-to-within}
-use Rattle.float.specs.Shifted.{Room, holds-shifted, holds-power, room-shifted}
+use Rattle.float_laws.specs.Bounds.{Within, Holds, holds-whole, within-more, within-finite, add-within, sub-within, mul-within, div-within, roundAway-within, sum-to-within}
+use Rattle.float_laws.specs.Shifted.{Room, holds-shifted, holds-power, room-shifted}
 use Rattle.float.specs.Calls.{roundAway}
-use Rattle.float.specs.Vote.{term, meanOfFour, term-within, mean-within}
+use Rattle.float_laws.specs.Vote.{term-within, mean-within}
 use Rattle.dct.specs.Grid.{cell, cell-grid}
 use Rattle.dct.specs.Matrix.{matrix, entry, turnedEntry}
 use Rattle.dct.specs.Dct.{sumOf, throughRows, throughColumns, forwardOf, inverseOf}
 use Rattle.block.specs.Plane.{lineAt, loadOf, line-fits}
 use Rattle.block.specs.Mark.{coefficients, step, halfOf, markedOf, markedBlock}
-use Rattle.block.specs.Soft.{termOf, voteOf}
+use Rattle.block.specs.Soft.{termOf, meanOfFour, voteOf}
 
 abbrev pub Each : List Float → ℕ → Type 0
 Each x a = (r c : ℕ) → r < 8 → c < 8 → Within (cell x r c) a 1
@@ -148,7 +148,7 @@ marked-cell x a (suc (suc (suc zero))) X h = X 2 2 (lit≤ tt) (lit≤ tt)
 marked-cell x a (suc (suc (suc (suc k)))) X h = absurd (omega arith)
 
 pub vote-within : (u x : List Float) (n : ℕ) → n + 1 ≤ 2 ^ 24 → Dither u → Each x (16 * n) → Within (voteOf u x) 1 1
-unfolding voteOf
+unfolding voteOf meanOfFour
 vote-within u x n N U X = mean-within binary32 _ (λ k K. term-of-within (getD x (getD coefficients k 0) nan) (getD u k nan) n N (marked-cell x (16 * n) k X K) (U k K))
 
 -- the vote of a block of samples
@@ -158,7 +158,7 @@ block-vote-within u x n k N K M U X = vote-within u (forwardOf x) (n * 2 ^ k) M 
 -- ---- where a coefficient is not finite, its term and the vote are no number
 
 pub term-of-none : (v : Float) (s : Bool) (m : ℕ) (e : ℤ) → T (not (finite v)) → termOf v (fin s m e) ≡ nan
-unfolding termOf term
+unfolding termOf
 term-of-none nan s m e h = refl
 term-of-none (inf true) s m e h = refl
 term-of-none (inf false) s m e h = refl

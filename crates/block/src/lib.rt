@@ -10,11 +10,10 @@ ghost use mathlib.Core.Path.{_≡_};
 ghost use mathlib.Core.List.{[], _∷_};
 ghost use Prim.Native.Nat.{_≤_, _<_};
 ghost use lib.ListN.{length, getD};
-ghost use lib.Ieee.{nan, binary32};
-ghost use Rattle.float.specs.Vote.{meanOfFour};
+ghost use lib.Ieee.{nan};
 ghost use Rattle.dct.specs.Grid.{cell, lineOf};
 ghost use Rattle.block.specs.Mark.{markedOf, markedBlock};
-ghost use Rattle.block.specs.Soft.{termOf, voteOf};
+ghost use Rattle.block.specs.Soft.{termOf, meanOfFour, voteOf};
 ghost use Rattle.block.specs.Plane.{lineAt, loadOf, storedOf};
 
 fn marked(v: f32, u: f32, half: f32) -> f32
@@ -45,7 +44,7 @@ fn vote_term(v: f32, u: f32) -> f32
 
 // The mean of four terms, summed in their order from -0.0.
 fn mean(a: f32, b: f32, c: f32, d: f32) -> f32
-    ensures { λ r. ⌜ r ≡ meanOfFour binary32 (λ k. getD (a ∷ b ∷ c ∷ d ∷ []) k nan) ⌝ }
+    ensures { λ r. ⌜ r ≡ meanOfFour (λ k. getD (a ∷ b ∷ c ∷ d ∷ []) k nan) ⌝ }
 {
     (-0.0f32 + a + b + c + d) / 4.0
 }

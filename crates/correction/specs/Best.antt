@@ -8,7 +8,7 @@ use lib.Dec.{T}
 use lib.ListN.{length, getD, replicate, getD-replicate, length-replicate}
 use lib.IntN.{ℤ, pos, negℤ, _+ℤ_, +ℤ-assoc, +ℤ-idl, +ℤ-idr}
 use lib.Signed.{_≤ℤ_, ltZ-yes, ltZ-no, ≤ℤ-refl}
-use Rattle.float.specs.Score.{Score, out, at, plus, ltS}
+use Rattle.float_laws.specs.Score.{Score, out, at, plus, ltS}
 use Rattle.seq.specs.Tab.{getD-tab}
 use Rattle.encoder.specs.Ccsds131.{out1, out2, register, nextState, code, run, Bits, none, one}
 use Rattle.correction.specs.Order.{≤ℤ-trans, ≤ℤ-add, <ℤ-le}

@@ -5,7 +5,7 @@ use Prim.Native.Nat.{ℕ}
 use lib.Ieee.{Float, binary32, add, mul}
 use Rattle.seq.specs.Sum.{sum-same}
 use Rattle.float.specs.Base.{zero-}
-use Rattle.float.specs.Commute.{mul-commutes}
+use Rattle.float_laws.specs.Commute.{mul-commutes}
 use Rattle.dct.specs.Grid.{grid, cell, cell-grid, grid-same}
 use Rattle.dct.specs.Dct.{sumOf, throughRows, throughColumns}
 

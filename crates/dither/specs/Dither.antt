@@ -16,8 +16,8 @@ use Rattle.chacha20.specs.Rfc8439.{word, blockOf}
 use Rattle.chacha20.specs.Blocks.{block-below}
 use Rattle.seq.specs.Tab.{tab, tab-same}
 use Rattle.float.specs.Base.{two-to}
-use Rattle.float.specs.Fraction.{div-value-at}
-use Rattle.float.specs.Exact.{exact-at}
+use Rattle.float_laws.specs.Product.{div-value-at}
+use Rattle.float.specs.Rounding.{exact-at}
 
 unfoldable pub ditherNonce : List ℕ
 ditherNonce = 1 ∷ replicate 11 0

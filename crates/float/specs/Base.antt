@@ -1,9 +1,7 @@
--- Constants by value, and a test that is known, as a fact.
-use mathlib.Core.Path.{_≡_, sym, subst}
-use mathlib.Core.Bool.{Bool, true, false, not}
+-- Constants by value. Definitions only.
+use mathlib.Core.Bool.{true, false}
 use Prim.Native.Nat.{ℕ}
-use lib.IntN.{pos}
-use lib.Dec.{T}
+use lib.IntN.{pos, negsuc}
 use lib.Ieee.{Float, fin}
 
 abbrev pub zero+ : Float
@@ -21,8 +19,5 @@ minus-two-to k = fin true 1 (pos k)
 abbrev pub natural : ℕ → Float
 natural k = fin false k (pos 0)
 
-pub yes : {b : Bool} → b ≡ true → T b
-yes h = subst T (sym h) tt
-
-pub no : {b : Bool} → b ≡ false → T (not b)
-no h = subst (λ (a : Bool). T (not a)) (sym h) tt
+abbrev pub half : Float
+half = fin false 1 (negsuc 0)

@@ -4,7 +4,7 @@ use mathlib.Core.Bool.{Bool, true, false, not, true≢false}
 use Prim.Native.Nat.{ℕ, zero, suc, _+_, _-_, _*_, _/_, _^_, _≤_, _<_}
 use native.Mathlib.Nat.{le-trans, le-of-eq, zero-lt-suc, mul-one, one-mul, zero-mul, mul-comm, mul-assoc, mul-right-comm, mul-left-comm, mul-pos, mul-le-mul-right, mul-lt-mul-of-pos-right, le-of-mul-le-mul-right, lt-of-mul-lt-mul-right, div-eq-of-lt-le, add-mul}
 use native.Mathlib.Omega.{arith}
-use lib.IntN.{ℤ, negsuc}
+use lib.IntN.{ℤ}
 use lib.Dec.{T, ltb, leb, ltb→lt, nltb→le, leb→le, nleb→lt, lit≤, lit<}
 use lib.Pow.{pow-add, pow-pos}
 use lib.Ieee.{Float, nan, inf, fin, Format, binary32, binary64, prec, emax, low, up, down, round, neg, sum, add, sub, lt, le, fits}
@@ -12,21 +12,16 @@ use lib.Ieee.Fits.{down-pos, sub-fits}
 use lib.Ieee.Exact.{HasValue}
 use lib.Ieee.Nearest.{closest}
 use Rattle.float.specs.Fraction.{add-at, sub-at, lt-at, value-scale, value-rescale, at-most, not-at-most}
-use Rattle.float.specs.Rounding.{held, round-to, neg-round}
-use Rattle.float.specs.Exact.{exact-at}
+use Rattle.float.specs.Rounding.{held, round-to, neg-round, exact-at}
 use Rattle.float.specs.Units.{inUnits, units-of}
 use Rattle.float.specs.Step.{on-and-off, minus-at-most, closest-le}
-use Rattle.float.specs.Error.{Half, closest-error}
-use Rattle.float.specs.Calls.{floor, roundAway, halfAway}
-use Rattle.float.specs.Base.{zero+, two-to, minus-two-to, yes, no}
+use Rattle.float.specs.Calls.{floor, roundAway, halfAway, Under}
 use Rattle.float.specs.Whole.{next, not-below-zero, top-digit}
+use Rattle.float.specs.Nearest.{Half, closest-error}
+use Rattle.float.specs.Base.{zero+, two-to, minus-two-to, half}
+use Rattle.float.specs.Known.{yes, no}
 
--- ---- not negative, with the sign clear, and below 2 ^ k
-
-abbrev pub Under : ℕ → Float → Type 0
-Under k nan = ⊥
-Under k (inf s) = ⊥
-Under k (fin s m e) = (s ≡ false) × (m * up e < 2 ^ k * down e)
+-- ---- the tests that say so of a value or of its negation
 
 lt-under : (m : ℕ) (e : ℤ) (k : ℕ) → T (ltb (m * up e * 1) (1 * 2 ^ k * down e)) → m * up e < 2 ^ k * down e
 lt-under m e k q =
@@ -190,9 +185,6 @@ floor-neg-near f (fin false m e) t h p =
     ∙ ap (λ (z : ℕ). round f true z 1) (sym (up-near (m * up e) (down e) (r .q) (down-pos e) l (r .not-more)))
 
 -- ---- to the nearest, a half up: one more where y is a half above the whole number
-
-abbrev pub half : Float
-half = fin false 1 (negsuc 0)
 
 has-half : (f : Format) → 1 ≤ low f
 has-half binary32 = lit≤ tt

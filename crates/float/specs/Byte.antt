@@ -9,16 +9,11 @@ use lib.Dec.{T, ltb→lt, nltb→le, lit≤, lit<}
 use lib.Ieee.{Float, nan, inf, fin, binary32, up, down, lt, fits, toUnsigned, inUnsigned, whole}
 use lib.Ieee.Fits.{down-pos}
 use lib.Ieee.Exact.{HasValue}
-use Rattle.float.specs.Calls.{roundAway, roundedByte, halfAway}
+use Rattle.float.specs.Calls.{roundAway, roundedByte, halfAway, clamped, Under}
 use Rattle.float.specs.Whole.{half-rule, roundAway-value}
-use Rattle.float.specs.Beside.{Under}
 use Rattle.float.specs.Integer.{value-byte, value-top}
-use Rattle.float.specs.Base.{zero+, natural, yes, no}
-
--- x brought to 0..255, and 0 for a NaN
-unfoldable pub clamped : Float → Float
-unfolding lt
-clamped x = let low = cond (lt zero+ x) x zero+ in cond (lt low (natural 255)) low (natural 255)
+use Rattle.float.specs.Base.{zero+, natural}
+use Rattle.float.specs.Known.{yes, no}
 
 data Range (x : Float) : Type 0 where
   low : T (not (lt zero+ x)) → clamped x ≡ zero+ → Range x

@@ -1,9 +1,11 @@
 -- What Rust's calls on floats give, for every value of a format: rounding down, up and to the nearest with a half going away from zero, narrowing to another format, absolute value, the smaller and the larger of two.
 -- A finite value is ±m * 2 ^ e, the fraction m * up e / down e, and `round f s a c` is the value of the format f nearest to ±a / c, a tie going to the even one. Definitions only.
+use mathlib.Core.Path.{_≡_}
 use mathlib.Core.Bool.{Bool, true, false, _&&_, cond}
-use Prim.Native.Nat.{ℕ, _+_, _-_, _*_, _/_}
+use Prim.Native.Nat.{ℕ, _+_, _-_, _*_, _/_, _^_, _<_}
 use lib.IntN.{pos}
 use lib.Ieee.{Float, nan, inf, fin, Format, binary32, up, down, round, neg, isNan, lt, le, toUnsigned}
+use Rattle.float.specs.Base.{zero+, natural}
 
 -- the whole number that ±a / c is rounded to, in size: toward minus infinity, where s says that it is negative, and to the nearest, a half away from zero
 abbrev pub downward : Bool → ℕ → ℕ → ℕ
@@ -62,3 +64,14 @@ most x y = cond (isNan x) y (cond (lt x y) y x)
 unfoldable pub inUnit : Float → Bool
 unfolding le
 inUnit x = le (fin true 1 (pos 0)) x && le x (fin false 1 (pos 0))
+
+-- x brought to 0..255, and 0 for a NaN
+unfoldable pub clamped : Float → Float
+unfolding lt
+clamped x = let low = cond (lt zero+ x) x zero+ in cond (lt low (natural 255)) low (natural 255)
+
+-- not negative, with the sign clear, and below 2 ^ k
+abbrev pub Under : ℕ → Float → Type 0
+Under k nan = ⊥
+Under k (inf s) = ⊥
+Under k (fin s m e) = (s ≡ false) × (m * up e < 2 ^ k * down e)

@@ -5,7 +5,7 @@ use lib.Dec.{T}
 use lib.Ieee.{Float, nan, inf, fin, lt, ne, isNan}
 use lib.Ieee.Compare.{nan-differs, differs-from-itself}
 use Rattle.float.specs.Calls.{least, most}
-use Rattle.float.specs.Base.{yes, no}
+use Rattle.float.specs.Known.{yes, no}
 
 pub equals-itself : (x : Float) → ne x x ≡ false → T (not (isNan x))
 unfolding isNan

@@ -19,12 +19,12 @@ use lib.Ieee.Order.{round-mono}
 use lib.Ieee.Scale.{round-same, grid}
 use lib.Ieee.Bits.{cond-no, is-false, nanBits-is}
 use Rattle.float.specs.Fraction.{value-unique, value-rescale, lt-at}
-use Rattle.float.specs.Rounding.{Held, held, neg-round, round-own}
+use Rattle.float.specs.Rounding.{Held, held, neg-round, round-own, round-shape, inf-not-le}
 use Rattle.float.specs.Units.{inUnits, units-of}
 use Rattle.float.specs.Step.{on-and-off, size-gt}
-use Rattle.float.specs.Bounds.{round-shape, inf-not-le}
 use Rattle.float.specs.Calls.{narrow}
-use Rattle.float.specs.Base.{zero+, two-to, yes, no}
+use Rattle.float.specs.Base.{zero+, two-to}
+use Rattle.float.specs.Known.{yes, no}
 
 pub narrow-neg : (x : Float) → narrow (neg x) ≡ neg (narrow x)
 unfolding narrow neg

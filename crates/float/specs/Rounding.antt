@@ -1,17 +1,21 @@
--- `round` at a value of the format gives that value, and `round` and `neg` commute. Generic over the format.
+-- `round`: at a value of the format it gives that value; a whole number of 1 / 2 ^ l, up to 2 ^ prec of them, is such a value; it commutes with `neg`.
+-- Generic over the format.
 use mathlib.Core.Path.{_≡_, refl, sym, ap, _∙_, subst}
 use mathlib.Core.Bool.{Bool, true, false, not, _&&_, cond}
 use Prim.Native.Nat.{ℕ, zero, suc, _+_, _-_, _*_, _%_, _^_, _≤_, _<_}
-use native.Mathlib.Nat.{mul-one, mul-comm, mul-assoc, mul-lt-mul-of-pos-right, not-le-of-lt}
+use native.Mathlib.Nat.{mul-one, mul-comm, mul-assoc, mul-lt-mul-of-pos-right, not-le-of-lt, le-of-lt, lt-of-lt-of-le, eq-or-lt-of-le, one-mul}
 use lib.IntN.{ℤ, pos}
-use lib.Dec.{T, ltb, leb, eqb, ltb→lt, leb→le, nleb→lt}
-use lib.Pow.{pow-add, pow-pos, pow-lt}
-use lib.Ieee.{Float, nan, inf, fin, Format, prec, emax, low, up, down, odd, units, round, neg, fits}
+use lib.Dec.{T, ltb, leb, eqb, ltb→lt, leb→le, nleb→lt, lit<}
+use lib.Pow.{pow-add, pow-pos, pow-lt, pow-mono, shl-lt}
+use lib.Ieee.{Float, nan, inf, fin, Format, prec, emax, low, up, down, odd, units, round, neg, fits, binary32, binary64, le}
 use lib.Ieee.Digits.{back}
 use lib.Ieee.Fits.{and-l, and-r, round-fits, round-is, down-pos}
-use lib.Ieee.Scale.{round-same}
-use lib.Ieee.Exact.{HasValue, round-exact}
+use lib.Ieee.Scale.{round-same, grid, overflow}
+use lib.Ieee.Exact.{HasValue, round-exact, odd-sign}
 use Rattle.float.specs.Fraction.{value-unique, zero-exp, upx, downx, up-is, down-is}
+use mathlib.Core.Logic.{inl, inr, _⊎_}
+use native.Mathlib.Omega.{arith}
+use lib.Ieee.Order.{drop, kept}
 
 -- ---- what `fits` says of a value that is not zero
 pub record Held (f : Format) (m : ℕ) (e : ℤ) : Type 0 where
@@ -92,3 +96,53 @@ neg-units f s q k = go (ltb (q * 2 ^ k) (2 ^ (low f + suc (emax f))))
 
 pub neg-round : (f : Format) (s : Bool) (a c : ℕ) → neg (round f s a c) ≡ round f (not s) a c
 neg-round f s a c = ap neg (round-is f s a c) ∙ neg-units f s _ _ ∙ sym (round-is f (not s) a c)
+
+-- ---- a whole number of 1 / 2 ^ l, up to 2 ^ prec of them, is a value of the format
+
+one-lt : (f : Format) → 1 < 2 ^ prec f
+one-lt binary32 = lit< tt
+one-lt binary64 = lit< tt
+
+reach : (f : Format) → prec f < suc (emax f)
+reach binary32 = lit< tt
+reach binary64 = lit< tt
+
+room : (p j l k e : ℕ) → j + l ≡ k → p < e → p + j < k + e
+room p j l k e h g = omega arith
+
+pub exact-at : (f : Format) (s : Bool) (n l : ℕ) → l ≤ low f → n ≤ 2 ^ prec f → HasValue (round f s n (2 ^ l)) s n (2 ^ l)
+exact-at f s n l L h =
+    let j = low f - l in
+    let split : 2 ^ low f ≡ 2 ^ j * 2 ^ l = sym (ap (λ (z : ℕ). 2 ^ z) (back (low f) l L)) ∙ pow-add 2 (low f - l) l in
+    let rm : prec f + j < low f + suc (emax f) = room (prec f) (low f - l) l (low f) (suc (emax f)) (back (low f) l L) (reach f) in
+    elim (eq-or-lt-of-le h) [
+      | inl e ↦
+          round-exact f s n (2 ^ l) 1 (prec f + j) (pow-pos l) (one-lt f)
+          (subst (λ (z : ℕ). z < 2 ^ (low f + suc (emax f))) (sym (one-mul (2 ^ (prec f + j)))) (pow-lt rm))
+          (ap (λ (z : ℕ). z * 2 ^ low f) e
+          ∙ ap (λ (z : ℕ). 2 ^ prec f * z) split
+          ∙ sym (mul-assoc (2 ^ prec f) (2 ^ j) (2 ^ l))
+          ∙ ap (λ (z : ℕ). z * 2 ^ l) (sym (pow-add 2 (prec f) j) ∙ sym (one-mul (2 ^ (prec f + j)))))
+      | inr g ↦
+          round-exact f s n (2 ^ l) n j (pow-pos l) g
+          (lt-of-lt-of-le (shl-lt (prec f) j g) (pow-mono (le-of-lt rm)))
+          (ap (λ (z : ℕ). n * z) split ∙ sym (mul-assoc n (2 ^ j) (2 ^ l)))
+    ]
+
+-- ---- what `round` gives: an infinity, or a value in units of the smallest one
+
+pub round-shape : (f : Format) (s : Bool) (n d : ℕ) → (round f s n d ≡ inf s) ⊎ HasValue (round f s n d) s (grid f n d) (2 ^ low f)
+unfolding units
+round-shape f s n d =
+    subst (λ (z : Float). (z ≡ inf s) ⊎ HasValue z s (grid f n d) (2 ^ low f)) (sym (round-is f s n d)) (go (ltb (grid f n d) (overflow f)))
+  where
+    go : (b : Bool) → (cond b (odd (suc (prec f)) s (kept (prec f) (n * 2 ^ low f) d) (drop (prec f) (n * 2 ^ low f) d) (low f)) (inf s) ≡ inf s)
+        ⊎ HasValue (cond b (odd (suc (prec f)) s (kept (prec f) (n * 2 ^ low f) d) (drop (prec f) (n * 2 ^ low f) d) (low f)) (inf s)) s (grid f n d) (2 ^ low f)
+    go true = inr (odd-sign (suc (prec f)) s (kept (prec f) (n * 2 ^ low f) d) (drop (prec f) (n * 2 ^ low f) d) (low f))
+    go false = inl refl
+
+pub inf-not-le : (y : Float) (a c : ℕ) → HasValue y false a c → T (le (inf false) y) → ⊥
+unfolding le
+inf-not-le nan a c h t = h
+inf-not-le (inf s) a c h t = h
+inf-not-le (fin s m e) a c h t = t

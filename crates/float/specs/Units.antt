@@ -4,16 +4,13 @@ use mathlib.Core.Bool.{Bool}
 use Prim.Native.Nat.{ℕ, _-_, _*_, _/_, _^_, _≤_}
 use native.Mathlib.Nat.{mul-assoc, mul-div-cancel}
 use lib.IntN.{ℤ}
-use lib.Dec.{T}
 use lib.Pow.{pow-add}
-use lib.Ieee.{Float, nan, inf, fin, Format, low, up, down, fits}
+use lib.Ieee.{Float, nan, inf, fin, Format, low, up, down}
 use lib.Ieee.Digits.{back}
 use lib.Ieee.Fits.{down-pos}
 use lib.Ieee.Exact.{HasValue}
-use lib.Ieee.Scale.{finite}
 use Rattle.float.specs.Fraction.{downx, down-is}
-use Rattle.float.specs.Rounding.{Held, held, pow-inj-le}
-use Rattle.float.specs.Exact.{Is, signed}
+use Rattle.float.specs.Rounding.{Held, pow-inj-le}
 
 abbrev pub inUnits : Format → Float → ℕ
 inUnits f nan = 0
@@ -28,8 +25,3 @@ units-of f s m e h =
     let spl : 2 ^ low f ≡ 2 ^ r * down e = sym (ap (λ (z : ℕ). 2 ^ z) (back (low f) d L)) ∙ pow-add 2 r d ∙ ap (λ (z : ℕ). 2 ^ r * z) (sym (down-is e)) in
     let w : m * up e * 2 ^ low f ≡ m * up e * 2 ^ r * down e = ap (λ (z : ℕ). m * up e * z) spl ∙ sym (mul-assoc (m * up e) (2 ^ r) (down e)) in
     (refl, w ∙ ap (λ (z : ℕ). z * down e) (sym (ap (λ (z : ℕ). z / down e) w ∙ mul-div-cancel (m * up e * 2 ^ r) (down-pos e))))
-
-pub every-finite : (f : Format) (x : Float) → T (fits f x) → T (finite x) → (z : ℤ) × Is (2 ^ low f) x z
-every-finite f nan t h = absurd h
-every-finite f (inf s) t h = absurd h
-every-finite f (fin s m e) t h = (signed s (inUnits f (fin s m e)), record { sign = s; size = inUnits f (fin s m e); value = units-of f s m e (held f s m e t); whole = refl })

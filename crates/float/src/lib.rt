@@ -6,9 +6,7 @@ ghost use Prim.Native.Nat.{max};
 ghost use lib.Dec.{T};
 ghost use lib.Ieee.{binary32, binary64, ofBits, lt, toSigned};
 ghost use Rattle.float.specs.Base.{zero+, two-to};
-ghost use Rattle.float.specs.Byte.{clamped};
-ghost use Rattle.float.specs.Calls.{floor, ceil, roundAway, roundedByte, narrow, absolute, least, most, inUnit};
-ghost use Rattle.float.specs.Beside.{Under};
+ghost use Rattle.float.specs.Calls.{clamped, floor, ceil, roundAway, roundedByte, narrow, absolute, least, most, inUnit, Under};
 use std::num::truncating_f64_to_i64;
 
 // For 0 <= x < 2^23 with the sign clear: `x.round()`. From 2^23 on an `f32` has no fraction, so adding 2^23

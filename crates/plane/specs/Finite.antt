@@ -9,8 +9,8 @@ use lib.ListN.{length, getD}
 use lib.Ieee.{Float, nan, binary32, sub}
 use Rattle.seq.specs.Tab.{length-tab, getD-tab}
 use Rattle.float.specs.Calls.{inUnit}
-use Rattle.float.specs.Bounds.{Within, value-within}
-use Rattle.float.specs.Unit.{within-unit}
+use Rattle.float_laws.specs.Bounds.{Within, value-within}
+use Rattle.float_laws.specs.Unit.{within-unit}
 use Rattle.dither.specs.Dither.{ditherOf, dither-exact}
 use Rattle.dct.specs.Grid.{cell, cell-grid}
 use Rattle.dct.specs.Dct.{forwardOf, inverseOf}

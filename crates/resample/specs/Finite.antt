@@ -13,11 +13,11 @@ use lib.Ieee.{Float, nan, binary32, ofBits, ofInt, add, mul}
 use Rattle.seq.specs.Tab.{getD-tab, length-tab}
 use Rattle.seq.specs.Lines.{getD-lines}
 use Rattle.float.specs.Base.{zero+, zero-}
-use Rattle.float.specs.Bounds.{Within, Holds, holds-scaled, within-more, round-within, add-within, mul-within}
-use Rattle.float.specs.Shifted.{Room, room-power}
+use Rattle.float_laws.specs.Bounds.{Within, Holds, holds-scaled, within-more, round-within, add-within, mul-within}
+use Rattle.float_laws.specs.Shifted.{Room, room-power}
 use Rattle.resample_window.specs.Window.{Tap, taps, longest}
-use Rattle.resample_window.specs.Reach.{reach, taps-few, taps-from, taps-room-down}
-use Rattle.resample_window.specs.Weights.{weights-within}
+use Rattle.resample_window_laws.specs.Reach.{reach, taps-few, taps-from, taps-room-down}
+use Rattle.resample_window_laws.specs.Weights.{weights-within}
 use Rattle.resample.specs.Tables.{noTap}
 use Rattle.resample.specs.Resampled.{total, across, resampled}
 use Rattle.resample.specs.Samples.{rowOf, value, lumaFrom, lumaAt, planeRow, planeOf, changeRow}

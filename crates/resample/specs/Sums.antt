@@ -14,8 +14,7 @@ use mir.ValLaws.{toZ-ofZ}
 use Rattle.resample_window.specs.declared.Window.{Window}
 use Rattle.resample_window.specs.declared.Weight.{Weight}
 use Rattle.resample_window.specs.declared.Weight.the-variants.{Of, Nothing}
-use Rattle.resample_window.specs.Window.{Tap, taps, numbers, weightOf, clampOf, tapsTo}
-use Rattle.resample_window.specs.Taps.{Small}
+use Rattle.resample_window.specs.Window.{Tap, taps, numbers, weightOf, clampOf, tapsTo, Small}
 use Rattle.resample_window.specs.Signed.{small-fits, numbers-small}
 use Rattle.resample_window.specs.Steps.{passed, taps-none, taps-one}
 use Rattle.resample.specs.Resampled.{total, across, resampled}

@@ -12,9 +12,9 @@ use lib.Ieee.{Float, nan, binary32, add, mul}
 use Rattle.float.specs.Base.{zero-}
 use Rattle.seq.specs.Tab.{tab, filled, length-tab, getD-tab}
 use Rattle.seq.specs.Lines.{lines}
-use Rattle.resample_window.specs.Window.{Tap, longest, taps}
-use Rattle.resample_window.specs.Taps.{start, sources, weights, allTaps, onto, length-onto, start-none, start-more, start-rises}
-use Rattle.resample_window.specs.Reach.{reach, taps-from, taps-few, taps-room-down, taps-room-up}
+use Rattle.resample_window.specs.Window.{Tap, longest, taps, start, sources, weights, allTaps, onto}
+use Rattle.resample_window.specs.Taps.{length-onto, start-none, start-more, start-rises}
+use Rattle.resample_window_laws.specs.Reach.{reach, taps-from, taps-few, taps-room-down, taps-room-up}
 use Rattle.resample.specs.Resampled.{total, across}
 
 -- the first places hold the taps of all dst output samples, from src samples

@@ -3,7 +3,3 @@ pub mod Signed
 pub mod Steps
 pub mod Range
 pub mod Taps
-pub mod Reach
-pub mod Weights
-pub mod Sheet
-pub mod Extent

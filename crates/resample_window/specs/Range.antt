@@ -1,31 +1,25 @@
--- Where a window lies: its centre and its support are finite, its support is at least 1, and the numbers of every window are below 2 ^ 15 in size, so that no sum or difference of them wraps.
+-- Where a window lies: its centre and its support are bounded, and the numbers of every window are below 2 ^ 15 in size, so that no sum or difference of them wraps.
 -- Each step is one rounding of an exact result that a whole number bounds, and rounding keeps the order.
-use mathlib.Core.Path.{_≡_, refl, sym, ap, _∙_, subst}
-use mathlib.Core.Logic.{inl, inr}
-use mathlib.Core.Bool.{Bool, true, false, not, _&&_, cond}
-use Prim.Native.Nat.{ℕ, suc, _+_, _-_, _*_, _/_, _^_, _≤_, _<_, zero-le}
+use mathlib.Core.Path.{_≡_, sym, ap, _∙_, subst}
+use mathlib.Core.Bool.{Bool, true, false, _&&_, cond}
+use Prim.Native.Nat.{ℕ, _+_, _*_, _/_, _^_, _≤_, _<_, zero-le}
 use native.Mathlib.Nat.{le-refl, le-trans, le-of-eq, lt-of-le-of-lt, zero-lt-suc, mul-one, one-mul, mul-comm, add-mul, mul-le-mul, mul-le-mul-right, lt-div-mul-add, div-mul-le-self, div-le-self}
 use native.Mathlib.Omega.{arith}
-use lib.IntN.{ℤ, pos, negsuc, negℤ, natAbs, _+ℤ_, _-ℤ_}
-use lib.Signed.{mag, ltZ}
-use lib.Dec.{T, ltb, leb, ltb→lt, nltb→le, lt→ltb, leb→le, le→leb, lit≤, lit<}
-use lib.Pow.{pow-pos}
-use lib.Ieee.{Float, nan, inf, fin, Format, binary64, low, round, ofInt, add, sub, mul, lt, isNan, fits}
+use lib.IntN.{ℤ, pos, negsuc, natAbs}
+use lib.Signed.{mag}
+use lib.Dec.{T, ltb, leb, ltb→lt, lt→ltb, leb→le, le→leb, lit≤, lit<}
+use lib.Ieee.{Float, nan, inf, fin, binary64, round, ofInt, add, sub, mul, lt, isNan}
 use lib.Ieee.Bits.{is-true}
 use lib.Ieee.Back.{round-whole}
 use lib.Ieee.Exact.{HasValue}
 use lib.Ieee.Fits.{and-i, and-l, and-r, add-fits, sub-fits}
-use lib.Ieee.Scale.{grid}
-use Rattle.float.specs.Base.{two-to}
-use Rattle.float.specs.Beside.{half}
+use Rattle.float.specs.Base.{two-to, half}
 use Rattle.float.specs.Calls.{most}
-use Rattle.float.specs.Fraction.{div-value-at, lt-at}
-use Rattle.float.specs.Exact.{abs-neg}
-use Rattle.float.specs.AddError.{size-within}
-use Rattle.float.specs.Bounds.{Within, Holds, holds-whole, round-shape, round-within, within-more, add-within, sub-within, mul-within}
-use Rattle.float.specs.Integer.{floor-bound, ceil-bound}
+use Rattle.float_laws.specs.Product.{div-value-at}
+use Rattle.float_laws.specs.Bounds.{Within, Holds, holds-whole, round-within, within-more, add-within, sub-within, mul-within}
+use Rattle.float_laws.specs.Floors.{floor-bound, ceil-bound}
 use Rattle.resample_window.specs.declared.Window.{Window}
-use Rattle.resample_window.specs.Window.{scaleOf, centerOf, supportOf, unsummed, summed, empty, longest, sized, hasWindow, windowOf, numbers}
+use Rattle.resample_window.specs.Window.{scaleOf, centerOf, supportOf, unsummed, summed, empty, longest, sized, hasWindow, windowOf}
 
 -- ---- a window is that of an output sample that is there, or the one without a number
 
@@ -61,44 +55,7 @@ window-cases P src dst i z h = go (hasWindow src dst i) (λ t. let p = has-windo
     go true k = k tt
     go false k = z
 
--- ---- the support: at least 1, and at most any whole number r that is at least 1 and at least src / dst
-
--- in units of the format's smallest value
-pub record Between (f : Format) (x : Float) (r : ℕ) : Type 0 where
-  pub size : ℕ
-  pub value : HasValue x false size (2 ^ low f)
-  pub least : 2 ^ low f ≤ size
-  pub greatest : size ≤ r * 2 ^ low f
-
-pub one-is : (c : ℕ) → HasValue (two-to 0) false c c
-one-is c = (refl, one-mul c ∙ sym (mul-one c))
-
-at-least-own : (r u : ℕ) → 1 ≤ r → u ≤ r * u
-at-least-own r u h = le-trans (le-of-eq (sym (one-mul u))) (mul-le-mul-right u h)
-
-number : (x : Float) (s : Bool) (a c : ℕ) → HasValue x s a c → isNan x ≡ false
-unfolding isNan
-number nan s a c h = absurd h
-number (inf t) s a c h = absurd h
-number (fin t m e) s a c h = refl
-
-most-between : (f : Format) (x : Float) (g r : ℕ) → 1 ≤ r → HasValue x false g (2 ^ low f) → g ≤ r * 2 ^ low f → Between f (most x (two-to 0)) r
-unfolding most
-most-between f x g r R v l =
-    subst (λ (b : Bool). Between f (cond b (two-to 0) (cond (lt x (two-to 0)) (two-to 0) x)) r) (sym (number x false g (2 ^ low f) v))
-    (subst (λ (b : Bool). Between f (cond b (two-to 0) x) r) (sym (lt-at x (two-to 0) false false g (2 ^ low f) (2 ^ low f) (pow-pos (low f)) v (one-is (2 ^ low f)))) (go (ltb g (2 ^ low f)) (nltb→le g (2 ^ low f))))
-  where
-    go : (b : Bool) → (T (not b) → 2 ^ low f ≤ g) → Between f (cond b (two-to 0) x) r
-    go true k = record { size = 2 ^ low f; value = one-is (2 ^ low f); least = le-refl (2 ^ low f); greatest = at-least-own r (2 ^ low f) R }
-    go false k = record { size = g; value = v; least = k tt; greatest = l }
-
-round-between : (f : Format) (a c r : ℕ) → 0 < c → 1 ≤ r → Holds f r 1 → a ≤ r * c → Between f (most (round f false a c) (two-to 0)) r
-round-between f a c r C R H h =
-    let w : Within (round f false a c) r 1 = round-within f false a c r 1 C (zero-lt-suc 0) H (le-trans (le-of-eq (mul-one a)) h) in
-    elim (round-shape f false a c) [
-      | inl e ↦ absurd (subst (λ (z : Float). Within z r 1) e w)
-      | inr v ↦ most-between f (round f false a c) (grid f a c) r R v (size-within f (round f false a c) (pos (grid f a c)) r (record { sign = false; size = grid f a c; value = v; whole = refl }) w)
-    ]
+-- ---- the sizes of what a window is made of
 
 pub whole-value : (n : ℕ) → n ≤ longest → HasValue (ofInt binary64 (pos n)) false n 1
 unfolding ofInt
@@ -110,13 +67,6 @@ scale-is src dst B C D =
     div-value-at binary64 (ofInt binary64 (pos src)) (ofInt binary64 (pos dst)) false false src 1 dst 1 (zero-lt-suc 0) C (zero-lt-suc 0) (whole-value src B) (whole-value dst D)
     ∙ ap (λ (z : ℕ). round binary64 false z (1 * dst)) (mul-one src)
     ∙ ap (λ (z : ℕ). round binary64 false src z) (one-mul dst)
-
-pub support-between : (src dst r : ℕ) → src ≤ longest → 0 < dst → dst ≤ longest → 1 ≤ r → r ≤ longest → src ≤ r * dst → Between binary64 (supportOf src dst) r
-unfolding supportOf
-support-between src dst r B C D R Q h =
-    subst (λ (z : Float). Between binary64 (most z (two-to 0)) r) (sym (scale-is src dst B C D)) (round-between binary64 src dst r C R (holds-whole binary64 r (le-trans Q (lit≤ tt))) h)
-
--- ---- the sizes of what a window is made of
 
 most-either : (P : Float → Type 0) (x y : Float) → P x → P y → P (most x y)
 unfolding most
@@ -162,10 +112,6 @@ center-within src dst i B C D I =
     let m : Within (mul binary64 x (scaleOf src dst)) (dst * r) 1 = mul-within binary64 x (scaleOf src dst) dst 1 r 1 (zero-lt-suc 0) (zero-lt-suc 0) (small (dst * r) (le-trans f (lit≤ tt))) b (scale-within src dst r B C D (small r (omega arith)) (omega arith)) in
     sub-within binary64 (mul binary64 x (scaleOf src dst)) half (2 ^ 14) 1 1 (zero-lt-suc 0) (holds-whole binary64 (2 ^ 14 + 1) (lit≤ tt)) (within-more (mul binary64 x (scaleOf src dst)) (dst * r) 1 (2 ^ 14) 1 (zero-lt-suc 0) m (mul-le-mul-right 1 f)) (lit≤ tt)
 
-pub center-fits : (src dst i : ℕ) → T (fits binary64 (centerOf src dst i))
-unfolding centerOf
-center-fits src dst i = sub-fits binary64 (mul binary64 (add binary64 (ofInt binary64 (pos i)) half) (scaleOf src dst)) half
-
 -- ---- its first and last number
 
 mag-le : (z : ℤ) → mag z ≤ natAbs z
@@ -199,48 +145,3 @@ first-small src dst i = lt-of-le-of-lt (le-trans (mag-le (windowOf src dst i .fi
 
 pub last-small : (src dst i : ℕ) → mag (windowOf src dst i .last) < 2 ^ 30
 last-small src dst i = lt-of-le-of-lt (le-trans (mag-le (windowOf src dst i .last)) (last-within src dst i)) (lit< tt)
-
--- ---- how many there are
-
-pub natAbs-add : (a b : ℤ) → natAbs (a +ℤ b) ≤ natAbs a + natAbs b
-natAbs-add (pos a) (pos b) = le-refl (a + b)
-natAbs-add (pos a) (negsuc b) = go (ltb a (suc b))
-  where
-    go : (t : Bool) → natAbs (cond t (negsuc (suc b - suc a)) (pos (a - suc b))) ≤ a + suc b
-    go true = omega arith
-    go false = omega arith
-natAbs-add (negsuc a) (pos b) = go (ltb b (suc a))
-  where
-    go : (t : Bool) → natAbs (cond t (negsuc (suc a - suc b)) (pos (b - suc a))) ≤ suc a + b
-    go true = omega arith
-    go false = omega arith
-natAbs-add (negsuc a) (negsuc b) = omega arith
-
-natAbs-neg : (a : ℤ) → natAbs (negℤ a) ≡ natAbs a
-natAbs-neg (pos a) = abs-neg a
-natAbs-neg (negsuc a) = refl
-
-difference-le : (a b : ℤ) (n : ℕ) → natAbs a ≤ n → natAbs b ≤ n → natAbs (b -ℤ a) ≤ 2 * n
-difference-le a b n h k = let l = natAbs-add b (negℤ a) in let e = natAbs-neg a in omega arith
-
-numbers-le : (a b : ℤ) (n : ℕ) → natAbs a ≤ n → natAbs b ≤ n → numbers a b ≤ 2 * n + 1
-unfolding numbers
-numbers-le a b n h k = go (ltZ b a)
-  where
-    go : (t : Bool) → cond t 0 (suc (natAbs (b -ℤ a))) ≤ 2 * n + 1
-    go true = zero-le
-    go false = let l = difference-le a b n h k in omega arith
-
-pub numbers-within : (src dst i : ℕ) → numbers (windowOf src dst i .first) (windowOf src dst i .last) ≤ 2 * span + 1
-numbers-within src dst i = numbers-le (windowOf src dst i .first) (windowOf src dst i .last) span (first-within src dst i) (last-within src dst i)
-
-pub numbers-small : (src dst i : ℕ) → numbers (windowOf src dst i .first) (windowOf src dst i .last) ≤ 2 ^ 31
-numbers-small src dst i = le-trans (numbers-within src dst i) (lit≤ tt)
-
--- ---- sums and differences of them
-
-pub place-small : (src dst i k : ℕ) → k ≤ 2 ^ 31 → mag (windowOf src dst i .first +ℤ pos k) < 2 ^ 32
-place-small src dst i k h =
-    let j = windowOf src dst i .first in
-    let f : natAbs j ≤ span = first-within src dst i in
-    lt-of-le-of-lt (le-trans (mag-le (j +ℤ pos k)) (natAbs-add j (pos k))) (omega arith)

@@ -1,40 +1,20 @@
--- The taps of all output samples, one behind the other, as a list of source numbers and a list of weights.
+-- Laws on the taps of all output samples, one behind the other.
 use mathlib.Core.Path.{_≡_, refl, sym, _∙_, ap}
 use mathlib.Core.Logic.{inl, inr}
 use mathlib.Core.List.{List, _++_, map, map-append}
-use Prim.Native.Nat.{ℕ, zero, suc, _+_, _≤_, _<_, _^_}
+use Prim.Native.Nat.{ℕ, zero, suc, _+_, _≤_, _<_}
 use native.Mathlib.Numerals.{add-one}
 use native.Mathlib.Nat.{le-refl, eq-or-lt-of-le}
 use native.Mathlib.Omega.{arith}
 use lib.ListN.{length, getD, set, take, drop, length-append, length-drop, length-map, List·getD-map}
 use lib.Seq.{paste, paste-suc, take-all, take-at, drop-append-add, drop-drop}
-use lib.Signed.{mag}
-use lib.Ieee.{Float}
 use Rattle.seq.specs.Lines.{lines}
 use Rattle.resample_window.specs.declared.Window.{Window}
-use Rattle.resample_window.specs.Window.{Tap, windowOf, tapsOf, taps}
+use Rattle.resample_window.specs.Window.{Tap, windowOf, tapsOf, taps, Small, allTaps, start, onto}
 use Rattle.resample_window.specs.Range.{first-small, last-small}
-
--- a window on whose numbers no arithmetic overflows
-abbrev pub Small : Window → Type 0
-Small w = (mag (w .first) < 2 ^ 30) × (mag (w .last) < 2 ^ 30)
 
 pub window-small : (w : Window) (src dst i : ℕ) → w ≡ windowOf src dst i → Small w
 window-small w src dst i e = rw e (first-small src dst i, last-small src dst i)
-
-abbrev pub sources : List Tap → List ℕ
-sources ts = map (λ t. t .from) ts
-
-abbrev pub weights : List Tap → List Float
-weights ts = map (λ t. t .weight) ts
-
--- of output samples 0 to n - 1
-unfoldable pub allTaps : ℕ → ℕ → ℕ → List Tap
-allTaps src dst n = lines (taps src dst) n
-
--- where those of output sample i start
-unfoldable pub start : ℕ → ℕ → ℕ → ℕ
-start src dst i = length (allTaps src dst i)
 
 -- ---- laid from place n of a list d on
 
@@ -47,10 +27,6 @@ module _ {A : Type 0} (f : Tap → A) (d : List A) (n : ℕ) (ts : List Tap) whe
       ap (λ (xs : List A). set xs (n + m) (f t)) p ∙ (ap (λ (y : A). set (paste d n (map f ts) m) (n + m) y) (sym v) ∙ (paste-suc d n (map f ts) m (f t) h long ∙ ap (paste d n (map f ts)) (sym (add-one m))))
 
 -- ---- all of them, in the first places of a list
-
--- d with s in its first places
-unfoldable pub onto : {A : Type 0} → List A → List A → List A
-onto s d = s ++ drop (length s) d
 
 module _ {A : Type 0} where
   -- s in the first places, and t behind it

@@ -1,17 +1,18 @@
 -- The triangle kernel, from document 01, "Resampling and samples": the window of an output sample, the tent and the weight of a source number, and the taps, the numbers that have a weight, clamped to the edge. Definitions only.
 use mathlib.Core.Bool.{Bool, cond, _&&_}
-use mathlib.Core.List.{List, [], _∷_, _++_}
-use Prim.Native.Nat.{ℕ, zero, suc, min, _-_}
+use mathlib.Core.List.{List, [], _∷_, _++_, map}
+use Prim.Native.Nat.{ℕ, zero, suc, min, _-_, _<_, _^_}
 use lib.Dec.{ltb, leb}
 use lib.IntN.{ℤ, pos, negsuc, natAbs, _+ℤ_, _-ℤ_}
-use lib.Signed.{ltZ}
+use lib.Signed.{ltZ, mag}
 use lib.Ieee.{Float, binary32, binary64, ofInt, toSigned, add, sub, mul, div, lt}
-use Rattle.float.specs.Base.{zero+, two-to}
-use Rattle.float.specs.Beside.{half}
+use Rattle.float.specs.Base.{zero+, two-to, half}
 use Rattle.float.specs.Calls.{floor, ceil, narrow, absolute, most}
 use Rattle.resample_window.specs.declared.Window.{Window}
 use Rattle.resample_window.specs.declared.Weight.{Weight}
 use Rattle.resample_window.specs.declared.Weight.the-variants.{Of, Nothing}
+use lib.ListN.{length, drop}
+use Rattle.seq.specs.Lines.{lines}
 
 -- ---- a window
 
@@ -102,3 +103,27 @@ tapsOf w src = tapsTo w src (numbers (w .first) (w .last))
 -- of output sample i
 unfoldable pub taps : ℕ → ℕ → ℕ → List Tap
 taps src dst i = tapsOf (windowOf src dst i) src
+
+-- a window on whose numbers no arithmetic overflows
+abbrev pub Small : Window → Type 0
+Small w = (mag (w .first) < 2 ^ 30) × (mag (w .last) < 2 ^ 30)
+
+-- ---- the taps of all output samples, one behind the other
+
+abbrev pub sources : List Tap → List ℕ
+sources ts = map (λ t. t .from) ts
+
+abbrev pub weights : List Tap → List Float
+weights ts = map (λ t. t .weight) ts
+
+-- of output samples 0 to n - 1
+unfoldable pub allTaps : ℕ → ℕ → ℕ → List Tap
+allTaps src dst n = lines (taps src dst) n
+
+-- where those of output sample i start
+unfoldable pub start : ℕ → ℕ → ℕ → ℕ
+start src dst i = length (allTaps src dst i)
+
+-- d with s in its first places
+unfoldable pub onto : {A : Type 0} → List A → List A → List A
+onto s d = s ++ drop (length s) d

@@ -18,7 +18,7 @@ use Rattle.encoder.specs.Sheet.{zero-record, first-bit, last-bit}
 use Rattle.block.specs.Mark.{halfOf, markedOf}
 use Rattle.block.specs.Soft.{termOf}
 use Rattle.block.specs.Sheet.{marked-sheet, term-sheet, rest-sheet}
-use Rattle.resample_window.specs.Sheet.{Line, tap, halved, doubled}
+use Rattle.resample_window_laws.specs.Sheet.{Line, tap, halved, doubled}
 use Rattle.resample.specs.Samples.{changedRow}
 use Rattle.resample_up.specs.Sheet.{change, written}
 use Rattle.admission.specs.Admission.{shorter, longer, roomOf, admission, writeAdmission}

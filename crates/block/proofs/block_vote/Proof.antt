@@ -1,8 +1,7 @@
 -- The four terms put in their places.
 use borrow.Author.Needs.{needs}
 use Rattle.seq.specs.Sum.{sumTo}
-use Rattle.float.specs.Vote.{meanOfFour}
-use Rattle.block.specs.Soft.{voteOf}
+use Rattle.block.specs.Soft.{meanOfFour, voteOf}
 use Rattle.block.proofs.block_vote.Statement.{statement}
 use Rattle.block.proofs.block_vote.Tie as tie
 

@@ -2,7 +2,7 @@
 use mathlib.Core.Path.{refl}
 use lib.Ieee.{neg, ofBits}
 use Rattle.seq.specs.Sum.{sumTo}
-use Rattle.float.specs.Vote.{meanOfFour}
+use Rattle.block.specs.Soft.{meanOfFour}
 use Rattle.block.proofs.mean.Statement.{statement}
 use Rattle.block.proofs.mean.Tie as tie
 

@@ -1,13 +1,12 @@
 -- The calls' results put in their places.
 use borrow.Author.Needs.{needs}
 use lib.Ieee.{ofBits}
-use Rattle.float.specs.Vote.{term}
 use Rattle.block.specs.Soft.{termOf}
 use Rattle.block.proofs.vote_term.Statement.{statement}
 use Rattle.block.proofs.vote_term.Tie as tie
 
 returns : tie.Need-returns
-unfolding termOf term ofBits
+unfolding termOf ofBits
 returns c = rw (c .min-f32 .ensures, c .before .floor-f32 .ensures)
 
 pub vote-term-spec : {M : Type 1} → statement M

@@ -1,6 +1,6 @@
 -- `float::abs_f64` meets its contract, by `specs/Range.antt`.
 use lib.Ieee.{binary64, ofBits}
-use Rattle.float.specs.Base.{yes, no}
+use Rattle.float.specs.Known.{yes, no}
 use Rattle.float.specs.Absolute.{absolute-above, absolute-below, absolute-rest}
 use Rattle.float.proofs.abs_f64.Statement.{statement}
 use Rattle.float.proofs.abs_f64.Tie as tie

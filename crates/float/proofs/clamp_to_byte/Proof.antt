@@ -4,7 +4,7 @@ use mathlib.Core.Logic.{⊎-elim}
 use mathlib.Core.Bool.{Bool, cond}
 use lib.Ieee.{Float, ofBits, lt}
 use Rattle.float.specs.Base.{zero+, natural}
-use Rattle.float.specs.Byte.{clamped}
+use Rattle.float.specs.Calls.{clamped}
 use Rattle.float.proofs.clamp_to_byte.Statement.{statement}
 use Rattle.float.proofs.clamp_to_byte.Tie as tie
 

@@ -4,7 +4,7 @@ use mathlib.Core.Bool.{true}
 use borrow.Author.Tests.{lt-ltb, le-ltb}
 use lib.Ieee.{Float, nan, inf, fin, binary32, div, isNan, ofBits}
 use lib.Ieee.Bits.{nanBits-is, nanBits-above}
-use Rattle.float.specs.Base.{no}
+use Rattle.float.specs.Known.{no}
 use Rattle.float.proofs.f32_from_bits.Statement.{statement}
 use Rattle.float.proofs.f32_from_bits.Tie as tie
 

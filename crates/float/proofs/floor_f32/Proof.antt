@@ -7,7 +7,7 @@ use lib.Ieee.Fits.{and-i, fits-widens}
 use lib.Ieee.Compare.{differs-from-itself}
 use borrow.Author.Needs.{needs}
 use Rattle.float.specs.Calls.{floor}
-use Rattle.float.specs.Base.{yes}
+use Rattle.float.specs.Known.{yes}
 use Rattle.float.specs.Widen.{floor-fits, floor-widens, floor-number, nan-stays}
 use Rattle.float.specs.Choice.{equals-itself}
 use Rattle.float.proofs.floor_f32.Statement.{statement}

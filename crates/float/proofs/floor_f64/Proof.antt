@@ -4,7 +4,7 @@ use lib.Dec.{T}
 use lib.Ieee.{Float, binary64, ofBits, neg, fits}
 use lib.Ieee.Fits.{neg-fits}
 use Rattle.float.specs.Calls.{floor}
-use Rattle.float.specs.Base.{yes, no}
+use Rattle.float.specs.Known.{yes, no}
 use Rattle.float.specs.Whole.{floor-still, still-large, still-large-neg, still-zero, neg-neg}
 use Rattle.float.specs.Beside.{under-above, under-below, floor-less, floor-near, floor-neg-more, floor-neg-near}
 use Rattle.float.proofs.floor_f64.Statement.{statement}

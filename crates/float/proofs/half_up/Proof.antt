@@ -1,6 +1,6 @@
 -- The two arms are `half-more` and `half-near` of Whole, at binary32.
 use lib.Ieee.{binary32, ofBits}
-use Rattle.float.specs.Base.{yes}
+use Rattle.float.specs.Known.{yes}
 use Rattle.float.specs.Beside.{half-more, half-near}
 use Rattle.float.proofs.half_up.Statement.{statement}
 use Rattle.float.proofs.half_up.Tie as tie

@@ -2,7 +2,7 @@
 use mathlib.Core.Path.{sym}
 use lib.Ieee.{ofBits, nanBits}
 use borrow.Author.Needs.{needs}
-use Rattle.float.specs.Base.{yes, no}
+use Rattle.float.specs.Known.{yes, no}
 use Rattle.float.specs.Narrow.{narrow-large}
 use Rattle.float.proofs.narrow_above_zero.Statement.{statement}
 use Rattle.float.proofs.narrow_above_zero.Tie as tie

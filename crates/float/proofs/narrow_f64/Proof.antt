@@ -3,7 +3,7 @@ use mathlib.Core.Path.{ap, _∙_}
 use lib.Ieee.{neg, ofBits, div}
 use borrow.Author.Needs.{needs}
 use Rattle.float.specs.Calls.{narrow}
-use Rattle.float.specs.Base.{yes}
+use Rattle.float.specs.Known.{yes}
 use Rattle.float.specs.Whole.{neg-neg}
 use Rattle.float.specs.Narrow.{narrow-neg, narrow-zero, narrow-nan, above-turned}
 use Rattle.float.proofs.narrow_f64.Statement.{statement}

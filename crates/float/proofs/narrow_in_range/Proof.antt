@@ -7,7 +7,8 @@ use native.Mathlib.Omega.{arith}
 use lib.Dec.{T}
 use lib.Ieee.{Float, inf, binary32, binary64, add, sub, lt, fits, isNan, ofBits, nanBits}
 use borrow.Author.Needs.{needs}
-use Rattle.float.specs.Base.{two-to, yes}
+use Rattle.float.specs.Base.{two-to}
+use Rattle.float.specs.Known.{yes}
 use Rattle.float.specs.Narrow.{Narrowed, narrowed, stepped, positive-no-nan}
 use Rattle.float.proofs.narrow_in_range.Statement.{statement}
 use Rattle.float.proofs.narrow_in_range.Tie as tie

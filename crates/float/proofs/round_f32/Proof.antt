@@ -4,7 +4,7 @@ use borrow.Author.Needs.{needs}
 use lib.Dec.{T}
 use lib.Ieee.{binary32, ofBits, neg, fits}
 use Rattle.float.specs.Calls.{roundAway}
-use Rattle.float.specs.Base.{yes, no}
+use Rattle.float.specs.Known.{yes, no}
 use Rattle.float.specs.Whole.{roundAway-still, roundAway-neg, still-large, still-large-neg, still-zero, neg-neg}
 use Rattle.float.specs.Beside.{under-above, under-below}
 use Rattle.float.proofs.round_f32.Statement.{statement}

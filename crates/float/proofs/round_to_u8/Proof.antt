@@ -3,10 +3,9 @@ use mathlib.Core.Path.{_≡_, sym, ap, _∙_, subst}
 use borrow.Author.Needs.{needs}
 use lib.Dec.{T}
 use lib.Ieee.{Float, binary32, inUnsigned, toUnsigned}
-use Rattle.float.specs.Calls.{roundAway}
-use Rattle.float.specs.Base.{yes}
-use Rattle.float.specs.Beside.{Under}
-use Rattle.float.specs.Byte.{clamped, clamped-under, clamped-byte, clamped-same}
+use Rattle.float.specs.Calls.{roundAway, Under, clamped}
+use Rattle.float.specs.Known.{yes}
+use Rattle.float.specs.Byte.{clamped-under, clamped-byte, clamped-same}
 use Rattle.float.proofs.round_to_u8.Statement.{statement}
 use Rattle.float.proofs.round_to_u8.Tie as tie
 

@@ -2,7 +2,7 @@
 use mathlib.Core.Path.{sym}
 use lib.Ieee.{ofBits, neg}
 use borrow.Author.Needs.{needs}
-use Rattle.float.specs.Base.{yes, no}
+use Rattle.float.specs.Known.{yes, no}
 use Rattle.float.specs.Integer.{too-large, too-small, neither}
 use Rattle.float.proofs.saturating_f64_to_i64.Statement.{statement}
 use Rattle.float.proofs.saturating_f64_to_i64.Tie as tie

@@ -7,7 +7,8 @@ use lib.Ieee.{Float, nan, binary32, add, mul, neg, ofBits}
 use denote.Ref.{now}
 use Rattle.seq.specs.Tab.{tab}
 use Rattle.float.specs.Base.{zero-}
-use Rattle.resample_window.specs.Taps.{start, start-rises}
+use Rattle.resample_window.specs.Window.{start}
+use Rattle.resample_window.specs.Taps.{start-rises}
 use Rattle.resample.specs.Resampled.{across}
 use Rattle.resample.specs.Tables.{Tables, soFar, offset-at, place-fits, from-inside, none-yet, one-more, all-there}
 use Rattle.resample_four.specs.Four.{lane}

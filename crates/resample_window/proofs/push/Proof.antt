@@ -11,8 +11,8 @@ use mir.Syntax.{w64}
 use mir.Val.{toZ, ofZ}
 use mir.ValLaws.{toZ-ofZ}
 use Rattle.resample_window.specs.declared.Weight.the-variants.{Of}
-use Rattle.resample_window.specs.Window.{Tap, numbers, weightOf, clampOf, tapsTo, tapsOf}
-use Rattle.resample_window.specs.Taps.{sources, weights, laid-more}
+use Rattle.resample_window.specs.Window.{Tap, numbers, weightOf, clampOf, tapsTo, tapsOf, sources, weights}
+use Rattle.resample_window.specs.Taps.{laid-more}
 use Rattle.resample_window.specs.Signed.{small-fits, numbers-small, clamp-below}
 use Rattle.resample_window.specs.Steps.{passed, taps-none, taps-one, tap-at, tap-room}
 use borrow.Author.Needs.{needs}

@@ -5,8 +5,7 @@ use Prim.Native.Nat.{_^_}
 use native.Mathlib.Omega.{arith}
 use lib.Dec.{le→leb}
 use lib.Ieee.{inFloat, ofBits}
-use Rattle.resample_window.specs.Window.{scaleOf, centerOf, supportOf, unsummed, summed, windowOf}
-use Rattle.resample_window.specs.Taps.{Small}
+use Rattle.resample_window.specs.Window.{scaleOf, centerOf, supportOf, unsummed, summed, windowOf, Small}
 use Rattle.resample_window.specs.Range.{window-sized, first-small, last-small}
 use borrow.Author.Needs.{needs}
 use Rattle.resample_window.proofs.sample_window.Statement.{statement}

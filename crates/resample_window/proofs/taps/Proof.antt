@@ -4,8 +4,8 @@ use Prim.Native.Nat.{_+_, _-_, _≤_}
 use native.Mathlib.Omega.{arith}
 use lib.ListN.{length, length-set}
 use Rattle.seq.specs.Tab.{filled, filled-none, filled-more}
-use Rattle.resample_window.specs.Window.{tapsOf, taps, windowOf}
-use Rattle.resample_window.specs.Taps.{window-small, taps-of, start, sources, weights, allTaps, onto, start-none, start-more, start-rises, all-none, all-pushed, all-length}
+use Rattle.resample_window.specs.Window.{tapsOf, taps, windowOf, start, sources, weights, allTaps, onto}
+use Rattle.resample_window.specs.Taps.{window-small, taps-of, start-none, start-more, start-rises, all-none, all-pushed, all-length}
 use borrow.Author.Needs.{needs}
 use Rattle.resample_window.proofs.taps.Statement.{statement}
 use Rattle.resample_window.proofs.taps.Tie as tie

@@ -5,7 +5,7 @@ use mir.Syntax.{w64}
 use mir.ValLaws.{toZ-ofZ}
 use Rattle.resample_window.specs.Range.{first-small, last-small}
 use Rattle.resample_window.specs.Signed.{small-fits}
-use Rattle.resample_window.specs.Taps.{Small}
+use Rattle.resample_window.specs.Window.{Small}
 use Rattle.comparison.specs.Stages.{numbersOf, partsOf}
 use Rattle.comparison.proofs.picture.vk_window.Statement.{statement}
 use Rattle.comparison.proofs.picture.vk_window.Tie as tie

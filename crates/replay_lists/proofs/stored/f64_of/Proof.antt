@@ -3,7 +3,7 @@ use mathlib.Core.Path.{_∙_}
 use borrow.Author.Tests.{le-ltb}
 use lib.Ieee.{binary64}
 use lib.Ieee.Bits.{nanBits-above}
-use Rattle.float.specs.Base.{no}
+use Rattle.float.specs.Known.{no}
 use borrow.Author.Needs.{needs}
 use Rattle.replay_lists.proofs.stored.f64_of.Statement.{statement}
 use Rattle.replay_lists.proofs.stored.f64_of.Tie as tie

@@ -1,6 +1,6 @@
 -- Where there is a window it is `sample_window`'s, and else the empty one.
 use mathlib.Core.Path.{_∙_, sym}
-use Rattle.float.specs.Base.{yes}
+use Rattle.float.specs.Known.{yes}
 use Rattle.resample_window.specs.Window.{windowOf}
 use Rattle.resample_window.specs.Range.{has-window}
 use borrow.Author.Needs.{needs}

@@ -5,7 +5,7 @@ use Prim.Native.Nat.{ℕ, _^_, _≤_, _<_}
 use lib.IntN.{ℤ, natAbs, _+ℤ_}
 use lib.Signed.{ltZ}
 use lib.Ieee.{Float, inf, Format, prec, low, add, lt}
-use Rattle.float.specs.Exact.{Is, is-add, is-lt, inf-add, inf-lt, lt-inf}
+use Rattle.float_laws.specs.Exact.{Is, is-add, is-lt, inf-add, inf-lt, lt-inf}
 
 pub data Score : Type 0 where
   out : Score

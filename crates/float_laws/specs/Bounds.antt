@@ -1,7 +1,7 @@
 -- Bounds on sizes. `Within x a c`: x is finite and at most a / c in size. `Holds f a c`: the format f holds the fraction a / c. An operation whose exact result is at most a / c in size gives
 -- a value that is, where the format holds a / c, since rounding keeps the order. Generic over the format.
-use mathlib.Core.Path.{_≡_, refl, sym, ap, _∙_, subst}
-use mathlib.Core.Logic.{_⊎_, inl, inr}
+use mathlib.Core.Path.{_≡_, sym, ap, _∙_, subst}
+use mathlib.Core.Logic.{inl, inr}
 use mathlib.Core.Bool.{Bool, true, false, _&&_, Bool·beq, cond}
 use Prim.Native.Nat.{ℕ, zero, suc, _+_, _-_, _*_, _/_, _^_, _≤_, _<_}
 use native.Mathlib.Nat.{le-refl, le-trans, le-of-eq, lt-irrefl, zero-mul, mul-comm, mul-assoc, mul-right-comm, mul-left-comm, mul-mul-mul-comm, add-mul, mul-pos, mul-le-mul, mul-le-mul-right, le-of-mul-le-mul-right, add-assoc, add-comm, add-zero, suc-mul, one-mul, div-lt-iff-lt-mul, eq-zero-or-pos}
@@ -9,16 +9,15 @@ use native.Mathlib.Omega.{arith}
 use lib.IntN.{ℤ}
 use lib.Dec.{T, ltb, eqb, eqb→eq}
 use lib.Pow.{pow-pos}
-use lib.Ieee.{Float, nan, inf, fin, Format, prec, low, unlike, up, down, odd, units, round, neg, sum, add, sub, mul, div, le}
-use lib.Ieee.Fits.{down-pos, up-pos, round-is}
-use lib.Ieee.Exact.{HasValue, odd-sign}
-use lib.Ieee.Order.{round-mono, drop, kept}
-use lib.Ieee.Scale.{grid, overflow, finite}
+use lib.Ieee.{Float, nan, inf, fin, Format, prec, low, unlike, up, down, round, neg, sum, add, sub, mul, div, le}
+use lib.Ieee.Fits.{down-pos, up-pos}
+use lib.Ieee.Exact.{HasValue}
+use lib.Ieee.Order.{round-mono}
+use lib.Ieee.Scale.{grid, finite}
 use Rattle.seq.specs.Sum.{sumTo}
 use Rattle.float.specs.Fraction.{value-scale, at-most}
-use Rattle.float.specs.Rounding.{neg-round}
-use Rattle.float.specs.Exact.{exact-at}
+use Rattle.float.specs.Rounding.{neg-round, exact-at, round-shape, inf-not-le}
 use Rattle.float.specs.Calls.{roundAway, halfAway}
 
 abbrev pub Within : Float → ℕ → ℕ → Type 0
 Within nan a c = ⊥
@@ -35,18 +34,6 @@ holds-scaled f n l L h = exact-at f false n l L h
 
 pub holds-whole : (f : Format) (n : ℕ) → n ≤ 2 ^ prec f → Holds f n 1
 holds-whole f n h = exact-at f false n 0 Prim.Native.Nat.zero-le h
-
--- ---- what `round` gives: an infinity, or a value in units of the smallest one
-
-pub round-shape : (f : Format) (s : Bool) (n d : ℕ) → (round f s n d ≡ inf s) ⊎ HasValue (round f s n d) s (grid f n d) (2 ^ low f)
-unfolding units
-round-shape f s n d =
-    subst (λ (z : Float). (z ≡ inf s) ⊎ HasValue z s (grid f n d) (2 ^ low f)) (sym (round-is f s n d)) (go (ltb (grid f n d) (overflow f)))
-  where
-    go : (b : Bool) → (cond b (odd (suc (prec f)) s (kept (prec f) (n * 2 ^ low f) d) (drop (prec f) (n * 2 ^ low f) d) (low f)) (inf s) ≡ inf s)
-        ⊎ HasValue (cond b (odd (suc (prec f)) s (kept (prec f) (n * 2 ^ low f) d) (drop (prec f) (n * 2 ^ low f) d) (low f)) (inf s)) s (grid f n d) (2 ^ low f)
-    go true = inr (odd-sign (suc (prec f)) s (kept (prec f) (n * 2 ^ low f) d) (drop (prec f) (n * 2 ^ low f) d) (low f))
-    go false = inl refl
 
 -- ---- from a value's fraction to a bound, and from one bound to a larger one
 
@@ -82,12 +69,6 @@ within-finite (inf s) a c h = h
 within-finite (fin s m e) a c h = tt
 
 -- ---- monotone rounding
-
-pub inf-not-le : (y : Float) (a c : ℕ) → HasValue y false a c → T (le (inf false) y) → ⊥
-unfolding le
-inf-not-le nan a c h t = h
-inf-not-le (inf s) a c h t = h
-inf-not-le (fin s m e) a c h t = t
 
 -- x and y, as fractions g / l and a / c
 le-values : (x y : Float) (g l a c : ℕ) → 0 < l → 0 < c → HasValue x false g l → HasValue y false a c → T (le x y) → g * c ≤ a * l

@@ -17,18 +17,21 @@ use lib.Ieee.Fits.{two, down-pos, add-fits, sub-fits, div-fits}
 use lib.Ieee.Order.{round-mono}
 use lib.Ieee.Positive.{first-pos}
 use lib.Ieee.Scale.{grid, round-same}
-use Rattle.float.specs.Base.{zero+, yes}
+use Rattle.float.specs.Base.{zero+}
+use Rattle.float.specs.Known.{yes}
 use Rattle.float.specs.Calls.{absolute, narrow}
-use Rattle.float.specs.Fraction.{value-scale, add-at, sub-at, div-value-at, at-most}
+use Rattle.float.specs.Fraction.{value-scale, add-at, sub-at, at-most}
+use Rattle.float_laws.specs.Product.{div-value-at}
 use Rattle.float.specs.Step.{minus-at-most}
-use Rattle.float.specs.Rounding.{Held, held, round-to}
-use Rattle.float.specs.AddError.{size-within}
-use Rattle.float.specs.Bounds.{Within, Holds, holds-whole, holds-scaled, round-shape, round-within}
+use Rattle.float.specs.Rounding.{Held, held, round-to, round-shape}
+use Rattle.float_laws.specs.AddError.{size-within}
+use Rattle.float_laws.specs.Bounds.{Within, Holds, holds-whole, holds-scaled, round-within}
 use Rattle.resample_window.specs.declared.Window.{Window}
 use Rattle.resample_window.specs.declared.Weight.the-variants.{Of, Nothing}
 use Rattle.resample_window.specs.Window.{tentOf, weightOf, sumOf, numbers, centerOf, supportOf, unsummed, summed, empty, Tap, clampOf, tapOf, tapsTo, tapsOf, taps}
-use Rattle.resample_window.specs.Range.{one-is, window-cases, numbers-small}
-use Rattle.resample_window.specs.Reach.{one, at-most-sum, reached, each-append}
+use Rattle.resample_window_laws.specs.Support.{one-is, numbers-small}
+use Rattle.resample_window.specs.Range.{window-cases}
+use Rattle.resample_window_laws.specs.Reach.{one, at-most-sum, reached, each-append}
 
 -- ---- a rounded fraction that is at most the whole number b, in units of the format's smallest value
 

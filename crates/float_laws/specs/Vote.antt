@@ -1,4 +1,4 @@
--- A block's vote is the mean of four terms 1 - 4 min(r, 1 - r), with r = x - floor x. Each term lies from -1 to 1 at every finite x, and so does the mean. Generic over the format.
+-- 1 - 4 min(r, 1 - r), with r = x - floor x, lies from -1 to 1 at every finite x, and so does the mean of four values that do: a block's vote. Generic over the format.
 use mathlib.Core.Path.{_≡_, refl, sym, ap, _∙_, subst}
 use mathlib.Core.Logic.{_⊎_, inl, inr}
 use mathlib.Core.Bool.{Bool, true, false, not, _&&_, cond, true≢false}
@@ -11,30 +11,21 @@ use lib.Ieee.{Float, nan, inf, fin, Format, binary32, binary64, prec, low, up, d
 use lib.Ieee.Fits.{down-pos}
 use lib.Ieee.Exact.{HasValue}
 use lib.Ieee.Scale.{grid, finite}
-use Rattle.float.specs.Fraction.{value-scale, sub-at, mul-value-at}
+use Rattle.float.specs.Fraction.{value-scale, sub-at}
+use Rattle.float_laws.specs.Product.{mul-value-at}
 use Rattle.seq.specs.Sum.{sumTo}
 use Rattle.float.specs.Calls.{floor, downward, least}
 use Rattle.float.specs.Step.{minus-at-most}
 use Rattle.float.specs.Whole.{floor-value}
 use Rattle.float.specs.Base.{zero-, two-to}
-use Rattle.float.specs.Bounds.{Within, Holds, holds-whole, holds-scaled, round-shape, round-within, within-more, sum-to-within, div-within}
-
--- ---- definitions
+use Rattle.float_laws.specs.Bounds.{Within, Holds, holds-whole, holds-scaled, round-within, within-more, sum-to-within, div-within}
+use Rattle.float.specs.Rounding.{round-shape}
 
 abbrev one : Float
 one = two-to 0
 
 abbrev four : Float
 four = two-to 2
-
-unfoldable pub term : Format → Float → Float
-unfolding sub mul least floor
-term f x = let r = sub f x (floor f x) in sub f one (mul f four (least r (sub f one r)))
-
--- (((-0 + t 0) + t 1) + t 2) + t 3, divided by 4
-unfoldable pub meanOfFour : Format → (ℕ → Float) → Float
-unfolding div add
-meanOfFour f t = div f (sumTo (add f) zero- 4 t) four
 
 -- not negative, with the sign clear, and at most a / c
 abbrev Upto : Float → ℕ → ℕ → Type 0
@@ -233,14 +224,12 @@ one-less f (fin false m e) k =
 
 -- ---- the term, and the mean of four
 
-pub term-within : (f : Format) (x : Float) → T (fits f x) → T (finite x) → Within (term f x) 1 1
-unfolding term
+pub term-within : (f : Format) (x : Float) → T (fits f x) → T (finite x) → let r = sub f x (floor f x) in Within (sub f one (mul f four (least r (sub f one r)))) 1 1
 term-within f x t h =
     let r = sub f x (floor f x) in
     one-less f (mul f four (least r (sub f one r))) (fourfold f (least r (sub f one r)) (halves f r (frac-upto f r (frac f x t h))))
 
-pub mean-within : (f : Format) (t : ℕ → Float) → ((k : ℕ) → k < 4 → Within (t k) 1 1) → Within (meanOfFour f t) 1 1
-unfolding meanOfFour
+pub mean-within : (f : Format) (t : ℕ → Float) → ((k : ℕ) → k < 4 → Within (t k) 1 1) → Within (div f (sumTo (add f) zero- 4 t) four) 1 1
 mean-within f t h =
     let total = sumTo (add f) zero- 4 t in
     let w : Within total 4 1 = sum-to-within f zero- t 4 1 0 1 (zero-lt-suc 0) (λ i l. small-whole f (0 + i * 1) (omega arith)) (le-refl 0) h in

@@ -11,10 +11,10 @@ use lib.Pow.{pow-pos}
 use lib.Ieee.{Float, nan, inf, fin, Format, prec, emax, low, up, down, round, sum, add}
 use lib.Ieee.Fits.{down-pos}
 use lib.Ieee.Exact.{HasValue}
 use Rattle.float.specs.Fraction.{add-at}
-use Rattle.float.specs.Exact.{Is, signed, abs-neg, abs-signed, pos-neg}
-use Rattle.float.specs.Bounds.{Within}
-use Rattle.float.specs.Error.{rounded}
+use Rattle.float_laws.specs.Exact.{Is, signed, abs-neg, abs-signed, pos-neg}
+use Rattle.float_laws.specs.Bounds.{Within}
+use Rattle.float_laws.specs.Error.{rounded}
 
 -- ---- a sum is one rounding of the exact sum
 

@@ -1,51 +1,19 @@
 -- `Is c x z`: the float x is finite and denotes z / c, either zero standing for 0. Where every value is a multiple of 1 / 2 ^ l and none exceeds 2 ^ prec of them,
 -- a float addition, negation and comparison are those of whole numbers. Generic over the format.
 use mathlib.Core.Path.{_≡_, refl, sym, ap, _∙_, subst}
-use mathlib.Core.Logic.{inl, inr}
 use mathlib.Core.Bool.{Bool, true, false, not, _&&_, cond}
-use Prim.Native.Nat.{ℕ, zero, suc, _+_, _-_, _*_, _^_, _≤_, _<_}
-use native.Mathlib.Nat.{le-of-lt, lt-of-lt-of-le, eq-or-lt-of-le, one-mul, mul-assoc}
+use Prim.Native.Nat.{ℕ, zero, suc, _+_, _-_, _^_, _≤_, _<_}
 use native.Mathlib.Omega.{arith}
 use lib.IntN.{ℤ, pos, negsuc, negℤ, natAbs, _+ℤ_, negℤ-negℤ, negℤ-+ℤ, +ℤ-comm}
 use lib.Signed.{ltZ}
-use lib.Dec.{T, ltb, ltb→lt, nltb→le, lit<, lt→ltb}
-use lib.Pow.{pow-add, pow-pos, pow-mono, pow-lt, shl-lt}
-use lib.Ieee.{Float, nan, inf, fin, Format, binary32, binary64, prec, emax, low, round, neg, sum, add, below, lt}
-use lib.Ieee.Digits.{back}
-use lib.Ieee.Exact.{HasValue, round-exact}
+use lib.Dec.{T, ltb, ltb→lt, nltb→le, lt→ltb}
+use lib.Pow.{pow-pos}
+use lib.Ieee.{Float, nan, inf, fin, Format, prec, low, round, neg, sum, add, below, lt, fits}
+use lib.Ieee.Exact.{HasValue}
 use Rattle.float.specs.Fraction.{add-at, neg-value, lt-at, bool-iff}
-
--- ---- a whole number of 1 / 2 ^ l, up to 2 ^ prec of them, is a value of the format
-
-one-lt : (f : Format) → 1 < 2 ^ prec f
-one-lt binary32 = lit< tt
-one-lt binary64 = lit< tt
-
-reach : (f : Format) → prec f < suc (emax f)
-reach binary32 = lit< tt
-reach binary64 = lit< tt
-
-room : (p j l k e : ℕ) → j + l ≡ k → p < e → p + j < k + e
-room p j l k e h g = omega arith
-
-pub exact-at : (f : Format) (s : Bool) (n l : ℕ) → l ≤ low f → n ≤ 2 ^ prec f → HasValue (round f s n (2 ^ l)) s n (2 ^ l)
-exact-at f s n l L h =
-    let j = low f - l in
-    let split : 2 ^ low f ≡ 2 ^ j * 2 ^ l = sym (ap (λ (z : ℕ). 2 ^ z) (back (low f) l L)) ∙ pow-add 2 (low f - l) l in
-    let rm : prec f + j < low f + suc (emax f) = room (prec f) (low f - l) l (low f) (suc (emax f)) (back (low f) l L) (reach f) in
-    elim (eq-or-lt-of-le h) [
-      | inl e ↦
-          round-exact f s n (2 ^ l) 1 (prec f + j) (pow-pos l) (one-lt f)
-          (subst (λ (z : ℕ). z < 2 ^ (low f + suc (emax f))) (sym (one-mul (2 ^ (prec f + j)))) (pow-lt rm))
-          (ap (λ (z : ℕ). z * 2 ^ low f) e
-          ∙ ap (λ (z : ℕ). 2 ^ prec f * z) split
-          ∙ sym (mul-assoc (2 ^ prec f) (2 ^ j) (2 ^ l))
-          ∙ ap (λ (z : ℕ). z * 2 ^ l) (sym (pow-add 2 (prec f) j) ∙ sym (one-mul (2 ^ (prec f + j)))))
-      | inr g ↦
-          round-exact f s n (2 ^ l) n j (pow-pos l) g
-          (lt-of-lt-of-le (shl-lt (prec f) j g) (pow-mono (le-of-lt rm)))
-          (ap (λ (z : ℕ). n * z) split ∙ sym (mul-assoc n (2 ^ j) (2 ^ l)))
-    ]
+use lib.Ieee.Scale.{finite}
+use Rattle.float.specs.Rounding.{held, exact-at}
+use Rattle.float.specs.Units.{inUnits, units-of}
 
 -- ---- the relation
 
@@ -177,3 +145,10 @@ lt-inf {c} {y} {w} h = go y (h .value)
     go nan k = absurd k
     go (inf t) k = absurd k
     go (fin t m e) k = refl
+
+-- ---- every finite value of a format is such a one, in units of the smallest
+
+pub every-finite : (f : Format) (x : Float) → T (fits f x) → T (finite x) → (z : ℤ) × Is (2 ^ low f) x z
+every-finite f nan t h = absurd h
+every-finite f (inf s) t h = absurd h
+every-finite f (fin s m e) t h = (signed s (inUnits f (fin s m e)), record { sign = s; size = inUnits f (fin s m e); value = units-of f s m e (held f s m e t); whole = refl })

@@ -19,20 +19,22 @@ use lib.Ieee.Exact.{HasValue}
 use lib.Ieee.Fits.{and-r, down-pos}
 use lib.Ieee.Order.{round-mono}
 use lib.Ieee.Scale.{grid}
-use Rattle.float.specs.Base.{zero+, two-to, yes}
+use Rattle.float.specs.Base.{zero+, two-to}
+use Rattle.float.specs.Known.{yes}
 use Rattle.float.specs.Calls.{absolute}
-use Rattle.float.specs.Fraction.{value-scale, neg-value, sub-at, div-value-at, at-most}
-use Rattle.float.specs.Rounding.{neg-round}
-use Rattle.float.specs.Exact.{Is, abs-signed, is-neg}
-use Rattle.float.specs.AddError.{add-once}
-use Rattle.float.specs.Units.{every-finite}
-use Rattle.float.specs.Bounds.{Within, Holds, holds-whole, round-shape, round-within, within-finite}
+use Rattle.float.specs.Fraction.{value-scale, neg-value, sub-at, at-most}
+use Rattle.float_laws.specs.Product.{div-value-at}
+use Rattle.float.specs.Rounding.{neg-round, round-shape}
+use Rattle.float_laws.specs.Exact.{Is, abs-signed, is-neg, every-finite}
+use Rattle.float_laws.specs.AddError.{add-once}
+use Rattle.float_laws.specs.Bounds.{Within, Holds, holds-whole, round-within, within-finite}
 use Rattle.resample_window.specs.declared.Window.{Window}
 use Rattle.resample_window.specs.declared.Weight.{Weight}
 use Rattle.resample_window.specs.declared.Weight.the-variants.{Of, Nothing}
 use Rattle.resample_window.specs.Window.{tentOf, weightOf, numbers, centerOf, supportOf, unsummed, summed, empty, longest, windowOf, Tap, clampOf, tapOf, tapsTo, tapsOf, taps}
 use Rattle.resample_window.specs.Signed.{clamp-below}
-use Rattle.resample_window.specs.Range.{one-is, Between, support-between, center-within, center-fits, window-cases, natAbs-add, first-within, numbers-small, span}
+use Rattle.resample_window_laws.specs.Support.{one-is, Between, support-between, center-fits, natAbs-add, numbers-small}
+use Rattle.resample_window.specs.Range.{center-within, window-cases, first-within, span}
 
 -- ---- the least whole number that is at least src / dst
 

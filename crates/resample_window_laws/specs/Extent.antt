@@ -14,17 +14,20 @@ use lib.Ieee.{Float, binary64, prec, low, round, ofInt, neg, sum, add, sub, mul}
 use lib.Ieee.Exact.{HasValue}
 use lib.Ieee.Fits.{add-fits, sub-fits}
 use lib.Ieee.Scale.{grid}
-use Rattle.float.specs.Beside.{half}
-use Rattle.float.specs.Fraction.{value-scale, add-at, mul-value-at}
-use Rattle.float.specs.Exact.{Is, exact-at, is-neg, abs-neg}
-use Rattle.float.specs.AddError.{dist, Near, add-near, size-within}
-use Rattle.float.specs.Bounds.{Within, holds-scaled, holds-whole, round-shape, round-within, within-more, add-within, sub-within, mul-within}
-use Rattle.float.specs.Integer.{floor-below, ceil-above}
+use Rattle.float.specs.Base.{half}
+use Rattle.float.specs.Fraction.{value-scale, add-at}
+use Rattle.float_laws.specs.Product.{mul-value-at}
+use Rattle.float_laws.specs.Exact.{Is, is-neg, abs-neg}
+use Rattle.float.specs.Rounding.{exact-at, round-shape}
+use Rattle.float_laws.specs.AddError.{dist, Near, add-near, size-within}
+use Rattle.float_laws.specs.Bounds.{Within, holds-scaled, holds-whole, round-within, within-more, add-within, sub-within, mul-within}
+use Rattle.float_laws.specs.Floors.{floor-below, ceil-above}
 use Rattle.resample_window.specs.declared.Window.{Window}
 use Rattle.resample_window.specs.Window.{scaleOf, centerOf, supportOf, unsummed, longest, windowOf, numbers}
 use Rattle.resample_window.specs.Signed.{diff-sign}
-use Rattle.resample_window.specs.Range.{whole-value, scale-is, scale-within, longest-times, natAbs-add, center-within, support-within, window-cases, span}
-use Rattle.resample_window.specs.Reach.{reach, reach-top, support-reach}
+use Rattle.resample_window.specs.Range.{whole-value, scale-is, scale-within, longest-times, center-within, support-within, window-cases, span}
+use Rattle.resample_window_laws.specs.Support.{natAbs-add}
+use Rattle.resample_window_laws.specs.Reach.{reach, reach-top, support-reach}
 
 -- ---- an integer as a difference of two numbers, of which one is 0
 

@@ -9,10 +9,11 @@ use lib.IntN.{ℤ}
 use lib.Dec.{T, ltb, eqb, ltb→lt, lt→ltb, eqb→eq}
 use lib.Ieee.{Float, nan, inf, fin, up, down, le, level}
 use lib.Ieee.Fits.{down-pos, and-i, and-l, and-r, eq→eqb}
 use Rattle.float.specs.Fraction.{or-split, or-l, or-r}
 use Rattle.float.specs.Calls.{inUnit}
-use Rattle.float.specs.Bounds.{Within}
-use Rattle.float.specs.Base.{two-to, minus-two-to, yes}
+use Rattle.float_laws.specs.Bounds.{Within}
+use Rattle.float.specs.Base.{two-to, minus-two-to}
+use Rattle.float.specs.Known.{yes}
 
 -- the order of two sizes, as the comparison of two values of one sign has it
 at-most→ : (s : Bool) (a b : ℕ) → T (ltb a b || (eqb (cond s b a) (cond s a b) && true)) → a ≤ b

@@ -1,0 +1,12 @@
+pub mod Product
+pub mod Exact
+pub mod Score
+pub mod Bounds
+pub mod Shifted
+pub mod Error
+pub mod AddError
+pub mod Floors
+pub mod Unit
+pub mod Vote
+pub mod Commute
+pub mod Sheet

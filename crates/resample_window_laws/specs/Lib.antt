@@ -1,0 +1,5 @@
+pub mod Support
+pub mod Reach
+pub mod Weights
+pub mod Extent
+pub mod Sheet
