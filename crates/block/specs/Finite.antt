@@ -16,7 +16,7 @@ use lib.Ieee.{Float, nan, inf, fin, binary32, up, down, add, mul, sub, div, ofBi
 use lib.Ieee.Fits.{sub-fits}
 use lib.Ieee.Scale.{finite}
 use Rattle.seq.specs.Table.{every, at}
-use Rattle.seq.specs.Sum.{sumTo}
+use Rattle.seq.specs.Lists.{sumTo}
 use Rattle.float.specs.Base.{zero-, two-to}
 use Rattle.float_laws.specs.Bounds.{Within, Holds, holds-whole, within-more, within-finite, add-within, sub-within, mul-within, div-within, roundAway-within, sum-to-within}
 use Rattle.float_laws.specs.Shifted.{Room, holds-shifted, holds-power, room-shifted}

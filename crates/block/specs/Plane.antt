@@ -9,7 +9,8 @@ use lib.Dec.{T, ltb, leb, ltb→lt, nltb→le, leb→le, nleb→lt}
 use lib.ListN.{length, getD}
 use lib.Ieee.{Float, nan}
 use Rattle.seq.specs.Tab.{length-tab, getD-tab}
-use Rattle.seq.specs.Lines.{pasted, length-pasted, pasted-at, pasted-other}
+use Rattle.seq.specs.Lines.{length-pasted, pasted-at, pasted-other}
+use Rattle.seq.specs.Lists.{pasted}
 use Rattle.dct.specs.Grid.{grid, grid-same, cell, lineOf}
 use Rattle.dct.specs.Columns.{columns-all}
 

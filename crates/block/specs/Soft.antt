@@ -4,7 +4,7 @@ use mathlib.Core.List.{List}
 use Prim.Native.Nat.{ℕ}
 use lib.ListN.{getD}
 use lib.Ieee.{Float, nan, binary32, add, sub, mul, div}
-use Rattle.seq.specs.Sum.{sumTo}
+use Rattle.seq.specs.Lists.{sumTo}
 use Rattle.float.specs.Base.{zero-, two-to}
 use Rattle.float.specs.Calls.{floor, least}
 use Rattle.block.specs.Mark.{coefficients, step}

@@ -4,12 +4,13 @@ use mathlib.Core.Path.{_≡_, refl, subst}
 use mathlib.Core.List.{List}
 use Prim.Native.Nat.{ℕ}
 use lib.ListN.{length, getD}
-use Rattle.seq.specs.Tab.{tab, tab-getD}
+use Rattle.seq.specs.Tab.{tab-getD}
+use Rattle.seq.specs.Lists.{tab}
 use Rattle.chacha20.specs.Rfc8439.{quarterRound, innerBlock}
 
 -- the inner block with the first and the third diagonal exchanged
-abbrev pub exchanged : List ℕ → List ℕ
-exchanged s =
+abbrev pub exchangedDiagonals : List ℕ → List ℕ
+exchangedDiagonals s =
     let s = quarterRound 0 4 8 12 s in
     let s = quarterRound 1 5 9 13 s in
     let s = quarterRound 2 6 10 14 s in
@@ -20,11 +21,11 @@ exchanged s =
     quarterRound 3 4 9 14 s
 
 -- on sixteen words both compute to the same
-exchanged-words : (g : ℕ → ℕ) → exchanged (tab g 16) ≡ innerBlock (tab g 16)
+exchanged-words : (g : ℕ → ℕ) → exchangedDiagonals (tab g 16) ≡ innerBlock (tab g 16)
 unfolding innerBlock quarterRound tab
 exchanged-words g = refl
 
-pub exchanged-inner : (s : List ℕ) → length s ≡ 16 → exchanged s ≡ innerBlock s
+pub exchanged-inner : (s : List ℕ) → length s ≡ 16 → exchangedDiagonals s ≡ innerBlock s
 exchanged-inner s h =
     let words : tab (λ k. getD s k 0) 16 ≡ s = rw h at (tab-getD s 0) in
-    subst (λ (t : List ℕ). exchanged t ≡ innerBlock t) words (exchanged-words (λ k. getD s k 0))
+    subst (λ (t : List ℕ). exchangedDiagonals t ≡ innerBlock t) words (exchanged-words (λ k. getD s k 0))

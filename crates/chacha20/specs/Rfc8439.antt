@@ -5,11 +5,12 @@ use mathlib.Core.List.{List, [], _∷_, _++_}
 use Prim.Native.Nat.{ℕ, zero, suc, _+_, _-_, _*_, _/_, _%_, _^_}
 use lib.Bits.{bitXor}
 use lib.ListN.{length, getD, set}
-use Rattle.seq.specs.Tab.{tab}
+use Rattle.seq.specs.Lists.{tab}
+use Rattle.seq.specs.Bytes.{word, littleEndian}
 
 -- 2.1: addition modulo 2^32, and the roll of a word by n bits towards its high end (`<<<`). `^` is `bitXor`.
-abbrev pub plus : ℕ → ℕ → ℕ
-plus a b = (a + b) % 2 ^ 32
+abbrev pub plusWord : ℕ → ℕ → ℕ
+plusWord a b = (a + b) % 2 ^ 32
 
 abbrev pub roll : ℕ → ℕ → ℕ
 roll n x = x * 2 ^ n % 2 ^ 32 + x / 2 ^ (32 - n)
@@ -17,13 +18,13 @@ roll n x = x * 2 ^ n % 2 ^ 32 + x / 2 ^ (32 - n)
 -- 2.1: the quarter round
 unfoldable pub quarter : ℕ → ℕ → ℕ → ℕ → List ℕ
 quarter a b c d =
-    let a = plus a b in
+    let a = plusWord a b in
     let d = roll 16 (bitXor d a) in
-    let c = plus c d in
+    let c = plusWord c d in
     let b = roll 12 (bitXor b c) in
-    let a = plus a b in
+    let a = plusWord a b in
     let d = roll 8 (bitXor d a) in
-    let c = plus c d in
+    let c = plusWord c d in
     let b = roll 7 (bitXor b c) in
     a ∷ b ∷ c ∷ d ∷ []
 
@@ -50,23 +51,16 @@ unfoldable pub rounds : ℕ → List ℕ → List ℕ
 rounds zero s = s
 rounds (suc n) s = innerBlock (rounds n s)
 
--- 2.3: word k of a byte string, its four bytes with the lowest first
-unfoldable pub word : List ℕ → ℕ → ℕ
-word bs k = getD bs (4 * k) 0 + getD bs (4 * k + 1) 0 * 2 ^ 8 + getD bs (4 * k + 2) 0 * 2 ^ 16 + getD bs (4 * k + 3) 0 * 2 ^ 24
-
--- 2.3: constants, key, block count, nonce
+-- 2.3: constants, the words of the key, block count, the words of the nonce; a word is four bytes, the lowest first
 unfoldable pub initial : List ℕ → ℕ → List ℕ → List ℕ
 initial key counter nonce =
     (0x61707865 ∷ 0x3320646e ∷ 0x79622d32 ∷ 0x6b206574 ∷ []) ++ tab (word key) 8 ++ (counter ∷ []) ++ tab (word nonce) 3
 
 -- 2.3: the words of two states added
 unfoldable pub sums : List ℕ → List ℕ → List ℕ
-sums s t = tab (λ k. plus (getD s k 0) (getD t k 0)) 16
+sums s t = tab (λ k. plusWord (getD s k 0) (getD t k 0)) 16
 
--- 2.3: a word as four bytes, the lowest first, and the words of a state one after the other
-unfoldable pub littleEndian : ℕ → List ℕ
-littleEndian w = w % 256 ∷ w / 2 ^ 8 % 256 ∷ w / 2 ^ 16 % 256 ∷ w / 2 ^ 24 % 256 ∷ []
-
+-- 2.3: the words of a state one after the other, each as four bytes, the lowest first
 unfoldable pub serialized : List ℕ → List ℕ
 serialized [] = []
 serialized (w ∷ ws) = littleEndian w ++ serialized ws
@@ -75,17 +69,17 @@ serialized (w ∷ ws) = littleEndian w ++ serialized ws
 unfoldable pub blockFrom : List ℕ → List ℕ
 blockFrom state = serialized (sums (rounds 10 state) state)
 
-unfoldable pub blockOf : List ℕ → ℕ → List ℕ → List ℕ
-blockOf key counter nonce = blockFrom (initial key counter nonce)
+unfoldable pub chachaBlock : List ℕ → ℕ → List ℕ → List ℕ
+chachaBlock key counter nonce = blockFrom (initial key counter nonce)
 
 -- 2.4: the keystream is the blocks of the counters 0, 1, 2 and so on, one after the other: the first n of them, and byte p
 -- of them all, which is byte p mod 64 of block p / 64 (`keystream-blocks` of Blocks.antt says that the two agree)
-unfoldable pub blocks : List ℕ → List ℕ → ℕ → List ℕ
-blocks key nonce zero = []
-blocks key nonce (suc n) = blocks key nonce n ++ blockOf key n nonce
+unfoldable pub chachaBlocks : List ℕ → List ℕ → ℕ → List ℕ
+chachaBlocks key nonce zero = []
+chachaBlocks key nonce (suc n) = chachaBlocks key nonce n ++ chachaBlock key n nonce
 
 unfoldable pub keystream : List ℕ → List ℕ → ℕ → ℕ
-keystream key nonce p = getD (blockOf key (p / 64) nonce) (p % 64) 0
+keystream key nonce p = getD (chachaBlock key (p / 64) nonce) (p % 64) 0
 
 -- 2.4: a message and the bytes p, p + 1, .. of a stream, by exclusive or
 unfoldable pub xored : (ℕ → ℕ) → ℕ → List ℕ → List ℕ

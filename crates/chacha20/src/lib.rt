@@ -1,10 +1,10 @@
-// ChaCha20's block function from RFC 8439, sections 2.1 to 2.3. For the keystream and the dither; `little_endian`
-// for all that read words. Everything is held to specs/Rfc8439.antt, which is that document's text as a definition; the
-// numbers in the comments are its sections.
+// ChaCha20's block function from RFC 8439, sections 2.1 to 2.3. For the keystream and the dither. Everything is held to
+// specs/Rfc8439.antt, which is that document's text as a definition; the numbers in the comments are its sections.
 ghost use mathlib.Core.Path.{_≡_};
-ghost use Prim.Native.Nat.{_+_, _*_, _^_, _<_};
+ghost use Prim.Native.Nat.{_+_, _*_, _<_};
 ghost use lib.ListN.{length, set};
-ghost use Rattle.chacha20.specs.Rfc8439.{roll, quarter, quarterRound, innerBlock, rounds, word, initial, sums, serialized, blockFrom, blockOf};
+ghost use Rattle.chacha20.specs.Rfc8439.{roll, quarter, quarterRound, innerBlock, rounds, initial, sums, serialized, blockFrom, chachaBlock};
+ghost use Rattle.seq.specs.Bytes.{word};
 
 // 2.1: `<<<`.
 fn roll_left(x: u32, n: u32) -> u32
@@ -70,20 +70,13 @@ fn ten_times(state: [u32; 16]) -> [u32; 16]
     s
 }
 
-// 2.3: four bytes as a word, the lowest first.
-pub fn little_endian(a: u8, b: u8, c: u8, d: u8) -> u32
-    ensures { λ r. ⌜ r ≡ a + b * 2 ^ 8 + c * 2 ^ 16 + d * 2 ^ 24 ⌝ }
-{
-    (a as u32) + (b as u32) * 0x100 + (c as u32) * 0x1_0000 + (d as u32) * 0x100_0000
-}
-
 // 2.3: word k of a key or a nonce.
 fn word_at(bytes: &[u8], k: usize) -> u32
     requires { ⌜ 4 * k + 3 < length (now bytes) ⌝ }
     ensures { λ r. ⌜ r ≡ word (now (bytes .entry)) k ⌝ }
 {
     let i = 4 * k;
-    little_endian(bytes[i], bytes[i + 1], bytes[i + 2], bytes[i + 3])
+    seq::little_endian(bytes[i], bytes[i + 1], bytes[i + 2], bytes[i + 3])
 }
 
 // 2.3: the initial state of block 0. Other blocks differ in word 12, so it is made once for all of them.
@@ -137,7 +130,7 @@ pub fn block_from(first: &[u32; 16], counter: u32) -> [u8; 64]
 
 // 2.3: the block function, 64 bytes of keystream.
 pub fn block(key: &[u8; 32], counter: u32, nonce: &[u8; 12]) -> [u8; 64]
-    ensures { λ r. ⌜ r ≡ blockOf (now (key .entry)) counter (now (nonce .entry)) ⌝ }
+    ensures { λ r. ⌜ r ≡ chachaBlock (now (key .entry)) counter (now (nonce .entry)) ⌝ }
 {
     let first = first_state(key, nonce);
     block_from(&first, counter)

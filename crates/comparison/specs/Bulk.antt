@@ -6,7 +6,7 @@ use lib.Dec.{eqb}
 use lib.Ieee.{Float, nan}
 use lib.ListN.{length, getD}
 use Rattle.float.specs.Calls.{roundedByte}
-use Rattle.seq.specs.Tab.{tab}
+use Rattle.seq.specs.Lists.{tab}
 
 abbrev pub roundedAt : List Float → ℕ → ℕ
 roundedAt from i = roundedByte (getD from i nan)

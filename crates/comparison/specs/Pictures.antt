@@ -13,7 +13,7 @@ use Rattle.resample_window.specs.Window.{sized}
 use Rattle.resample_window.specs.declared.Window.{Window}
 use Rattle.resample_window.specs.declared.Weight.{Weight}
 use Rattle.resample_window.specs.declared.Weight.the-variants.{Of, Nothing}
-use Rattle.seq.specs.Tab.{tab}
+use Rattle.seq.specs.Lists.{tab}
 use Rattle.resample.specs.Samples.{Sized, lumaAt, planeOf, changedOf}
 use Rattle.comparison.specs.Stages.{hasSides, hasLuma, hasPlane, hasChange}
 

@@ -2,7 +2,7 @@
 use keystream::Applied;
 ghost use mathlib.Core.Path.{_≡_};
 ghost use lib.ListN.{length};
-ghost use Rattle.chacha20.specs.Rfc8439.{blockOf};
+ghost use Rattle.chacha20.specs.Rfc8439.{chachaBlock};
 ghost use Rattle.keystream.specs.Apply.{appliedOf, bytesAfter, appliedNumber};
 ghost use Rattle.comparison.specs.Cipher.{nextOf};
 
@@ -13,7 +13,7 @@ pub extern "C" fn vk_chacha20_block(
     nonce: &[u8; 12],
     bytes: &mut [u8; 64],
 )
-    ensures { λ _. ⌜ now (bytes .exit) ≡ blockOf (now (key .entry)) counter (now (nonce .entry)) ⌝ }
+    ensures { λ _. ⌜ now (bytes .exit) ≡ chachaBlock (now (key .entry)) counter (now (nonce .entry)) ⌝ }
 {
     *bytes = chacha20::block(key, counter, nonce);
 }

@@ -2,7 +2,7 @@
 ghost use mathlib.Core.Path.{_≡_};
 ghost use Prim.Native.Nat.{_+_, _*_};
 ghost use lib.ListN.{length};
-ghost use Rattle.seq.specs.Tab.{tab};
+ghost use Rattle.seq.specs.Lists.{tab};
 ghost use Rattle.crc32.specs.Ieee8023.{crcOf};
 ghost use Rattle.utf8.specs.Rfc3629.{wellFormed};
 ghost use Rattle.utf8.specs.Counted.{counted};

@@ -12,9 +12,10 @@ use lib.ListN.{length, getD, List·getD-eq-default}
 use lib.IntN.{ℤ, pos, negsuc, negℤ, natAbs, _+ℤ_, +ℤ-assoc, +ℤ-comm, +ℤ-idr, +ℤ-invr}
 use lib.Signed.{_≤ℤ_, leZ-yes}
 use lib.Ieee.{Float, fin, binary32, prec}
-use Rattle.seq.specs.Sum.{sumTo, sum-same}
+use Rattle.seq.specs.Sum.{sum-same}
+use Rattle.seq.specs.Lists.{sumTo, tab}
 use Rattle.float_laws.specs.Exact.{Is}
-use Rattle.seq.specs.Tab.{tab, length-tab, getD-tab}
+use Rattle.seq.specs.Tab.{length-tab, getD-tab}
 use Rattle.correction.specs.Order.{≤ℤ-trans, ≤ℤ-add}
 use Rattle.decoder.specs.Decoder.{voted, floats, decoded}
 use Rattle.encoder.specs.Ccsds131.{code, run, Bits}

@@ -8,7 +8,7 @@ use native.Mathlib.Omega.{arith}
 use lib.ListN.{length, getD, set, replicate}
 use lib.IntN.{ℤ, pos, negℤ, natAbs, _+ℤ_, +ℤ-assoc, +ℤ-comm, negℤ-+ℤ}
 use lib.Ieee.{Float, nan, fin, binary32, prec, low}
-use Rattle.seq.specs.Sum.{sumTo}
+use Rattle.seq.specs.Lists.{sumTo}
 use Rattle.layout.specs.Places.{gather, gatherF}
 use Rattle.layout.specs.Sums.{gather-length}
 use Rattle.float_laws.specs.Exact.{is-add, Is}

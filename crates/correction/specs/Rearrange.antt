@@ -7,7 +7,8 @@ use native.Mathlib.Nat.{eq-or-lt-of-le}
 use native.Mathlib.Omega.{arith}
 use lib.Dec.{eqb}
 use borrow.Author.Tests.{eqb-true, eqb-false, eq-eqb, ne-eqb}
-use Rattle.seq.specs.Sum.{sumTo, sum-same}
+use Rattle.seq.specs.Sum.{sum-same}
+use Rattle.seq.specs.Lists.{sumTo}
 use Rattle.decoder.specs.Decoder.{pick}
 
 module _ {A : Type 0} (nil : A) (plus : A → A → A) where

@@ -6,7 +6,8 @@ use native.Mathlib.Nat.{mul-suc, add-comm, add-mul-div-right, div-eq-of-lt, le-o
 use native.Mathlib.Omega.{arith}
 use lib.ListN.{length, getD}
 use lib.Seq.{ext-getD}
-use Rattle.seq.specs.Tab.{tab, length-tab, getD-tab, tab-front, tab-same}
+use Rattle.seq.specs.Tab.{length-tab, getD-tab, tab-front, tab-same}
+use Rattle.seq.specs.Lists.{tab}
 use Rattle.encoder.specs.Ccsds131.{nextState, code, run, byteBits, recordBits, sixZeros, Bits, none, one}
 use Rattle.encoder.specs.Bits.{parity-lt, half-bit}
 use Rattle.decoder.specs.Decoder.{byteAt, bytesOf}

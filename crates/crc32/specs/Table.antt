@@ -6,7 +6,8 @@ use native.Mathlib.Omega.{arith}
 use lib.Bits.{bitXor}
 use lib.ListN.{getD}
 use lib.Pow.{field, mod-mod-pow}
-use Rattle.seq.specs.Tab.{tab, getD-tab}
+use Rattle.seq.specs.Tab.{getD-tab}
+use Rattle.seq.specs.Lists.{tab}
 use Rattle.crc32.specs.Shift.{reflected, registerTurns, tableEntry, table}
 use Rattle.crc32.specs.Turns.{turns-apart}
 

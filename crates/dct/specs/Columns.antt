@@ -10,7 +10,8 @@ use lib.Arith.{digits-div, digits-mod}
 use lib.ListN.{length, getD, set, length-set}
 use lib.Seq.{getD-set-same, getD-set-other, ext-getD}
 use lib.Ieee.{Float, nan}
-use Rattle.seq.specs.Tab.{tab, length-tab, getD-tab}
+use Rattle.seq.specs.Tab.{length-tab, getD-tab}
+use Rattle.seq.specs.Lists.{tab}
 use Rattle.dct.specs.Grid.{grid, cell, cell-grid, length-grid}
 
 -- p with f 0, f 1, .. f (n - 1) down its column c

@@ -2,7 +2,7 @@
 use mathlib.Core.List.{List}
 use Prim.Native.Nat.{ℕ}
 use lib.Ieee.{Float, binary32, add, mul}
-use Rattle.seq.specs.Sum.{sumTo}
+use Rattle.seq.specs.Lists.{sumTo}
 use Rattle.float.specs.Base.{zero-}
 use Rattle.dct.specs.Grid.{grid, cell}
 use Rattle.dct.specs.Matrix.{entry, turnedEntry}

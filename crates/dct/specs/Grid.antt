@@ -4,8 +4,9 @@ use mathlib.Core.List.{List}
 use Prim.Native.Nat.{ℕ, _+_, _*_, _<_}
 use lib.ListN.{length, getD}
 use lib.Ieee.{Float, nan}
-use Rattle.seq.specs.Tab.{tab, tab-same, length-tab, getD-tab}
-use Rattle.seq.specs.Lines.{lines, lines-same, length-lines, getD-lines}
+use Rattle.seq.specs.Tab.{tab-same, length-tab, getD-tab}
+use Rattle.seq.specs.Lists.{tab, lines}
+use Rattle.seq.specs.Lines.{lines-same, length-lines, getD-lines}
 
 -- line r, column c
 abbrev pub cell : List Float → ℕ → ℕ → Float

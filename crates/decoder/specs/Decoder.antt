@@ -7,7 +7,7 @@ use Prim.Native.Nat.{ℕ, zero, suc, _+_, _*_, _/_, _%_}
 use lib.ListN.{getD, replicate}
 use lib.Ieee.{Float, nan, inf, fin, binary32, add, neg, lt}
 use lib.IntN.{pos}
-use Rattle.seq.specs.Tab.{tab}
+use Rattle.seq.specs.Lists.{tab}
 use Rattle.encoder.specs.Ccsds131.{out1, out2}
 
 -- metrics M, votes W: what stands past a list's end, what a lost path has, the metric at the start, a vote added, a vote

@@ -5,9 +5,6 @@ use Rattle.chacha20.proofs as chacha20
 pub quarter-one : Determined chacha20.quarter.ended chacha20.quarter.Reads.Post
 quarter-one κs a x y p q i = (one p q i, x .1)
 
-pub little-endian-one : Determined chacha20.little_endian.ended chacha20.little_endian.Reads.Post
-little-endian-one κs a x y p q i = (one p q i, x .1)
-
 pub first-state-one : Determined chacha20.first_state.ended chacha20.first_state.Reads.Post
 first-state-one κs a x y p q i = (one p q i, x .1)
 

@@ -12,9 +12,11 @@ use lib.Ieee.{Float, binary32, round, div, ofInt}
 use lib.Ieee.Exact.{HasValue}
 use lib.Ieee.Back.{round-whole}
 use Rattle.shuffle.specs.Shuffle.{layoutKey}
-use Rattle.chacha20.specs.Rfc8439.{word, blockOf}
+use Rattle.chacha20.specs.Rfc8439.{chachaBlock}
+use Rattle.seq.specs.Bytes.{word}
 use Rattle.chacha20.specs.Blocks.{block-below}
-use Rattle.seq.specs.Tab.{tab, tab-same}
+use Rattle.seq.specs.Tab.{tab-same}
+use Rattle.seq.specs.Lists.{tab}
 use Rattle.float.specs.Base.{two-to}
 use Rattle.float_laws.specs.Product.{div-value-at}
 use Rattle.float.specs.Rounding.{exact-at}
@@ -29,7 +31,7 @@ dithered bytes k = div binary32 (ofInt binary32 (pos (word bytes k / 2 ^ 8))) (t
 
 -- number n: word n of the keystream, which is word n mod 16 of block n / 16
 unfoldable pub ditherOf : ℕ → Float
-ditherOf n = dithered (blockOf layoutKey (n / 16) ditherNonce) (n % 16)
+ditherOf n = dithered (chachaBlock layoutKey (n / 16) ditherNonce) (n % 16)
 
 -- ---- a number of the dither is exact, and from 0 up to, not including, 1
 
@@ -47,7 +49,7 @@ quotient n h =
 pub dither-exact : (n : ℕ) → (m : ℕ) × (m < 2 ^ 24) × HasValue (ditherOf n) false m (2 ^ 24)
 unfolding ditherOf dithered word
 dither-exact n =
-    let bytes = blockOf layoutKey (n / 16) ditherNonce in
+    let bytes = chachaBlock layoutKey (n / 16) ditherNonce in
     let k = n % 16 in
     let m = word bytes k / 2 ^ 8 in
     let at : (i : ℕ) → getD bytes i 0 < 256 = block-below layoutKey (n / 16) ditherNonce in
@@ -55,6 +57,6 @@ dither-exact n =
     (m, h, quotient m h)
 
 -- the sixteen numbers of block g of the keystream are those from 16 g on
-pub group-of : (g : ℕ) → tab (dithered (blockOf layoutKey g ditherNonce)) 16 ≡ tab (λ k. ditherOf (16 * g + k)) 16
+pub group-of : (g : ℕ) → tab (dithered (chachaBlock layoutKey g ditherNonce)) 16 ≡ tab (λ k. ditherOf (16 * g + k)) 16
 unfolding ditherOf
 group-of g = tab-same _ _ 16 (λ k h. let d : (16 * g + k) / 16 ≡ g = omega arith in let m : (16 * g + k) % 16 ≡ k = omega arith in rw (d, m) refl)

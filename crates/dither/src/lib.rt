@@ -4,7 +4,7 @@
 // keystream has, so that it does not end here.
 ghost use mathlib.Core.Path.{_≡_};
 ghost use Prim.Native.Nat.{_+_, _*_, _/_, _^_};
-ghost use Rattle.seq.specs.Tab.{tab};
+ghost use Rattle.seq.specs.Lists.{tab};
 ghost use lib.IntN.{pos};
 ghost use lib.Ieee.{binary32, div, ofInt};
 ghost use Rattle.float.specs.Base.{two-to};
@@ -30,7 +30,7 @@ fn numbers(bytes: &[u8; 64]) -> [f32; 16]
     let mut u = [0.0f32; 16];
     for k in 0..16usize {
         let i = 4 * k;
-        u[k] = number(chacha20::little_endian(bytes[i], bytes[i + 1], bytes[i + 2], bytes[i + 3]));
+        u[k] = number(seq::little_endian(bytes[i], bytes[i + 1], bytes[i + 2], bytes[i + 3]));
     }
     u
 }

@@ -14,7 +14,7 @@ use lib.Ieee.Fits.{down-pos, up-pos}
 use lib.Ieee.Exact.{HasValue}
 use lib.Ieee.Order.{round-mono}
 use lib.Ieee.Scale.{grid, finite}
-use Rattle.seq.specs.Sum.{sumTo}
+use Rattle.seq.specs.Lists.{sumTo}
 use Rattle.float.specs.Fraction.{value-scale, at-most}
 use Rattle.float.specs.Rounding.{neg-round, exact-at, round-shape, inf-not-le}
 use Rattle.float.specs.Calls.{roundAway, halfAway}

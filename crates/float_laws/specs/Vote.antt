@@ -13,7 +13,7 @@ use lib.Ieee.Exact.{HasValue}
 use lib.Ieee.Scale.{grid, finite}
 use Rattle.float.specs.Fraction.{value-scale, sub-at}
 use Rattle.float_laws.specs.Product.{mul-value-at}
-use Rattle.seq.specs.Sum.{sumTo}
+use Rattle.seq.specs.Lists.{sumTo}
 use Rattle.float.specs.Calls.{floor, downward, least}
 use Rattle.float.specs.Step.{minus-at-most}
 use Rattle.float.specs.Whole.{floor-value}

@@ -4,7 +4,8 @@ use mathlib.Core.List.{List, _++_, append-assoc}
 use Prim.Native.Nat.{ℕ, suc, _+_, _<_}
 use lib.ListN.{length, take, drop, set, getD}
 use lib.Seq.{drop-cons, drop-drop, take-at, drop-at, getD-at}
-use Rattle.seq.specs.Tab.{tab, length-tab, tab-same, filled, filled-more, tab-append}
+use Rattle.seq.specs.Tab.{length-tab, tab-same, filled-more, tab-append}
+use Rattle.seq.specs.Lists.{tab, filled}
 
 module _ {A : Type 0} where
   -- the places that are not filled yet hold what they held

@@ -12,7 +12,8 @@ use lib.Dec.{lit<}
 use lib.ListN.{length, getD, replicate, length-append, length-replicate, getD-replicate, List·getD-append}
 use lib.Seq.{getD-append-add, ext-getD}
 use borrow.Author.Tests.{le-leb, lt-leb}
-use Rattle.seq.specs.Tab.{tab, length-tab, getD-tab, tab-same, tab-append}
+use Rattle.seq.specs.Tab.{length-tab, getD-tab, tab-same, tab-append}
+use Rattle.seq.specs.Lists.{tab}
 use Rattle.keystream.specs.declared.Applied.the-variants.{Next, KeystreamEnd}
 use Rattle.chacha20.specs.Rfc8439.{keystream, xored, encrypted}
 use Rattle.keystream.specs.Apply.{leftAt, appliedOf, bytesAfter}

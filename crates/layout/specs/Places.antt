@@ -6,7 +6,7 @@ use lib.IntN.{pos}
 use lib.ListN.{getD, set, replicate}
 use lib.Ieee.{Float, nan, fin, binary32, add}
 use mathlib.Core.Bool.{true, false}
-use Rattle.seq.specs.Tab.{tab}
+use Rattle.seq.specs.Lists.{tab}
 use Rattle.layout.specs.Layout.{blockCount, blockOf, placeOf}
 
 -- ---- from coded bits to blocks

@@ -12,7 +12,8 @@ use lib.IntN.{pos}
 use lib.ListN.{length, getD, set, replicate, length-set, length-replicate, getD-replicate}
 use lib.Seq.{getD-set-same, getD-set-other}
 use lib.Ieee.{Float, nan, fin, binary32, add}
-use Rattle.seq.specs.Tab.{tab, tab-same, getD-tab}
+use Rattle.seq.specs.Tab.{tab-same, getD-tab}
+use Rattle.seq.specs.Lists.{tab}
 use Rattle.encoder.specs.Ccsds131.{codedBits}
 use Rattle.layout.specs.Layout.{blockCount, blockOf, placeOf}
 use Rattle.layout.specs.Permutation.{layout-undo}

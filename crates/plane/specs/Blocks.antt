@@ -10,7 +10,8 @@ use lib.Arith.{digits-div, digits-mod}
 use lib.ListN.{length, getD, take, set, length-set}
 use lib.Seq.{ext-getD}
 use lib.Ieee.{Float, nan}
-use Rattle.seq.specs.Tab.{tab, tab-same, length-tab, getD-tab, prefix-more}
+use Rattle.seq.specs.Tab.{tab-same, length-tab, getD-tab, prefix-more}
+use Rattle.seq.specs.Lists.{tab}
 use Rattle.dither.specs.Dither.{ditherOf}
 use Rattle.dct.specs.Grid.{cell, cell-grid, length-grid}
 use Rattle.block.specs.Plane.{lineAt, loadOf, storedOf, length-stored, load-stored, load-other}

@@ -3,7 +3,7 @@ use mathlib.Core.List.{List}
 use Prim.Native.Nat.{ℕ, _+_, _*_, _/_, _%_}
 use lib.ListN.{getD}
 use lib.Ieee.{Float, binary32, sub}
-use Rattle.seq.specs.Tab.{tab}
+use Rattle.seq.specs.Lists.{tab}
 use Rattle.dither.specs.Dither.{ditherOf}
 use Rattle.dct.specs.Grid.{grid, cell}
 use Rattle.dct.specs.Dct.{forwardOf, inverseOf}

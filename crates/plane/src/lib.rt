@@ -12,7 +12,7 @@ ghost use mathlib.Core.Path.{_≡_};
 ghost use Prim.Native.Nat.{_+_, _*_, _<_};
 ghost use lib.ListN.{length, getD};
 ghost use lib.Ieee.{nan, binary32, sub};
-ghost use Rattle.seq.specs.Tab.{tab};
+ghost use Rattle.seq.specs.Lists.{tab};
 ghost use Rattle.dct.specs.Grid.{grid, cell};
 ghost use Rattle.dct.specs.Matrix.{entry, turnedEntry};
 ghost use Rattle.block.specs.Plane.{loadOf};

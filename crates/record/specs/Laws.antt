@@ -9,12 +9,14 @@ use native.Mathlib.Omega.{arith}
 use lib.ListN.{length, take, drop, getD, replicate, length-append, length-drop, length-replicate, take-append-drop, replicate-append-replicate}
 use lib.Seq.{paste, take-length, drop-append-add, length-take-le, take-append-le, drop-append-le, take-at, drop-at, getD-append-add}
 use borrow.Author.Tests.{eq-eqb, leb-true}
-use Rattle.seq.specs.Part.{onPart, length-onPart}
+use Rattle.seq.specs.Part.{length-onPart}
+use Rattle.seq.specs.Lists.{onPart}
 use Rattle.crc32.specs.Ieee8023.{crcOf}
 use Rattle.crc32.specs.Bytes.{crc-lt}
 use Rattle.keystream.specs.Laws.{length-encrypted, encrypted-twice}
 use Rattle.record.specs.declared.Lock.{Lock}
-use Rattle.record.specs.Record.{Profile, innerAt, outerAt, lengthAt, bigEndian, numberAt, withCrc, intact, covered, headOf, laidOut, locked, sound}
+use Rattle.record.specs.Record.{Profile, innerAt, outerAt, lengthAt, withCrc, intact, covered, headOf, laidOut, locked, sound}
+use Rattle.seq.specs.Bytes.{bigEndian, numberAt}
 
 -- ---- parts
 

@@ -12,7 +12,8 @@ use Rattle.refusal.specs.declared.Refusal.{Refusal}
 use Rattle.crc32.specs.Ieee8023.{crcOf}
 use Rattle.utf8.specs.Rfc3629.{wellFormed}
 use Rattle.record.specs.declared.Lock.{Lock}
-use Rattle.record.specs.Record.{Profile, saltAt, lengthAt, textAt, innerAt, outerAt, bigEndian, numberAt, withCrc, intact, gives, headOf, laidOut, locked, recordOf, textIn, paddingIn, allZero, sound, insideOf}
+use Rattle.record.specs.Record.{Profile, saltAt, lengthAt, textAt, innerAt, outerAt, withCrc, intact, gives, headOf, laidOut, locked, recordOf, textIn, paddingIn, allZero, sound, insideOf}
+use Rattle.seq.specs.Bytes.{bigEndian, numberAt}
 use Rattle.record.specs.Laws.{length-summed, intact-summed, length-head, length-laid, take-locked, locked-append, locked-twice, length-locked}
 
 -- ---- the parts of what is laid, whatever stands behind

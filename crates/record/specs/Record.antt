@@ -5,7 +5,7 @@ use mathlib.Core.List.{List, [], _∷_, _++_}
 use Prim.Native.Nat.{ℕ, _+_, _-_, _*_, _/_, _%_, _^_}
 use lib.Dec.{leb, eqb}
 use lib.ListN.{length, getD, take, drop, replicate}
-use Rattle.seq.specs.Part.{onPart}
+use Rattle.seq.specs.Lists.{onPart}
 use Rattle.refusal.specs.declared.Refusal.{Refusal}
 use Rattle.refusal.specs.declared.Refusal.the-variants.{
   TextTooLong,
@@ -23,6 +23,7 @@ use Rattle.utf8.specs.Rfc3629.{wellFormed}
 use Rattle.utf8.specs.Counted.{counted}
 use Rattle.record.specs.declared.Lock.{Lock}
 use Rattle.record.specs.declared.Key.{Key}
+use Rattle.seq.specs.Bytes.{bigEndian, numberAt}
 
 -- what sets one profile apart from another: its modes, and the room for text
 pub record Profile : Type 0 where
@@ -54,14 +55,7 @@ outerAt p = innerAt p + 4
 abbrev pub size : Profile → ℕ
 size p = outerAt p + 4
 
--- ---- numbers and checks
-
--- four bytes, the highest first: of a number, and the number that stands at k
-unfoldable pub bigEndian : ℕ → List ℕ
-bigEndian w = w / 2 ^ 24 % 256 ∷ w / 2 ^ 16 % 256 ∷ w / 2 ^ 8 % 256 ∷ w % 256 ∷ []
-
-unfoldable pub numberAt : ℕ → List ℕ → ℕ
-numberAt k bs = getD bs k 0 * 2 ^ 24 + getD bs (k + 1) 0 * 2 ^ 16 + getD bs (k + 2) 0 * 2 ^ 8 + getD bs (k + 3) 0
+-- ---- checks
 
 -- bytes with their CRC-32 behind them
 unfoldable pub withCrc : List ℕ → List ℕ

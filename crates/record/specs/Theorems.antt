@@ -18,7 +18,8 @@ use Rattle.utf8.specs.Texts.{wellFormed-counted}
 use Rattle.record.specs.declared.Lock.{Lock}
 use Rattle.record.specs.declared.Key.{Key}
 use Rattle.record.specs.Given.{openingKey}
-use Rattle.record.specs.Record.{Profile, short, saltAt, lengthAt, outerAt, numberAt, intact, covered, refused, gives, headOf, locked, recordOf, builtOf, textIn, insideOf, parsedOf}
+use Rattle.record.specs.Record.{Profile, short, saltAt, lengthAt, outerAt, intact, covered, refused, gives, headOf, locked, recordOf, builtOf, textIn, insideOf, parsedOf}
+use Rattle.seq.specs.Bytes.{numberAt}
 use Rattle.record.specs.Opened.{outer-right, head-there, mode-keyed, mode-plain, salt-there, text-opened, inside-opened}
 
 locked-keyed : (p : Profile) (lock : Lock) (bs : List ℕ) → lock .given ≡ true → locked p lock bs ≡ covered p (lock .key) bs

@@ -1,33 +1,17 @@
 // Numbers of four bytes, the highest first, and CRC-32 that stand behind the bytes that they are of.
 ghost use mathlib.Core.Path.{_≡_};
 ghost use mathlib.Core.List.{_++_};
-ghost use Prim.Native.Nat.{_+_, _*_, _^_, _≤_};
+ghost use Prim.Native.Nat.{_+_, _≤_};
 ghost use lib.ListN.{length, take, drop};
-ghost use Rattle.record.specs.Record.{bigEndian, numberAt, withCrc, intact};
-
-fn big_endian(x: u32) -> [u8; 4]
-    ensures { λ r. ⌜ r ≡ bigEndian x ⌝ }
-{
-    [
-        (x / 0x100_0000 % 256) as u8,
-        (x / 0x1_0000 % 256) as u8,
-        (x / 0x100 % 256) as u8,
-        (x % 256) as u8,
-    ]
-}
-
-fn from_big_endian(a: u8, b: u8, c: u8, d: u8) -> u32
-    ensures { λ r. ⌜ r ≡ a * 2 ^ 24 + b * 2 ^ 16 + c * 2 ^ 8 + d ⌝ }
-{
-    (a as u32) * 0x100_0000 + (b as u32) * 0x1_0000 + (c as u32) * 0x100 + (d as u32)
-}
+ghost use Rattle.record.specs.Record.{withCrc, intact};
+ghost use Rattle.seq.specs.Bytes.{numberAt};
 
 // The number that four bytes from place k on are.
 pub fn number_at(bytes: &[u8], k: usize) -> u32
     requires { ⌜ k + 4 ≤ length (now bytes) ⌝ }
     ensures { λ r. ⌜ r ≡ numberAt k (now (bytes .entry)) ⌝ }
 {
-    from_big_endian(bytes[k], bytes[k + 1], bytes[k + 2], bytes[k + 3])
+    seq::from_big_endian(bytes[k], bytes[k + 1], bytes[k + 2], bytes[k + 3])
 }
 
 // The CRC-32 of the bytes before place k is put there.
@@ -35,7 +19,7 @@ pub fn put_crc(bytes: &mut [u8], k: usize)
     requires { ⌜ k + 4 ≤ length (now bytes) ⌝ }
     ensures { λ _. ⌜ now (bytes .exit) ≡ withCrc (take k (now (bytes .entry))) ++ drop (k + 4) (now (bytes .entry)) ⌝ }
 {
-    let crc = big_endian(crc32::crc32(&bytes[..k]));
+    let crc = seq::big_endian(crc32::crc32(&bytes[..k]));
     seq::copy_bytes(&crc, bytes, k);
 }
 

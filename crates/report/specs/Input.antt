@@ -5,9 +5,9 @@ use Prim.Native.Nat.{ℕ}
 use lib.Dec.{eqb}
 use lib.ListN.{length, replicate}
 use lib.Ieee.{Float, binary32, ofBits}
-use Rattle.seq.specs.Tab.{tab}
+use Rattle.seq.specs.Lists.{tab}
 use Rattle.refusal.specs.declared.Refusal.the-variants.{BadLength}
-use Rattle.chacha20.specs.Rfc8439.{word}
+use Rattle.seq.specs.Bytes.{word}
 use Rattle.record.specs.declared.Key.{Key}
 use Rattle.record.specs.declared.Reading.{Reading}
 use Rattle.record.specs.Record.{refused}

@@ -11,7 +11,7 @@ use lib.ListN.{length, getD, drop, length-append, length-take, length-replicate,
 use lib.Seq.{take-at}
 use lib.Ieee.{Float}
 use borrow.Author.Tests.{lt-ltb, le-ltb, ltb-true, ltb-false}
-use Rattle.seq.specs.Tab.{tab}
+use Rattle.seq.specs.Lists.{tab}
 use Rattle.refusal.specs.declared.Refusal.{Refusal}
 use Rattle.refusal.specs.declared.Refusal.the-variants.{
   BadLength,
@@ -25,7 +25,8 @@ use Rattle.refusal.specs.declared.Refusal.the-variants.{
 }
 use Rattle.record.specs.declared.Key.{Key}
 use Rattle.record.specs.declared.Reading.{Reading}
-use Rattle.record.specs.Record.{short, saltAt, lengthAt, textAt, outerAt, numberAt, intact, covered, Outcome, refused, gives, textIn, sound, insideOf, parsedOf}
+use Rattle.record.specs.Record.{short, saltAt, lengthAt, textAt, outerAt, intact, covered, Outcome, refused, gives, textIn, sound, insideOf, parsedOf}
+use Rattle.seq.specs.Bytes.{numberAt}
 use Rattle.record.specs.Answers.{readAs}
 use Rattle.record.specs.Laws.{sound-length}
 use Rattle.layout.specs.Layout.{blockCount}

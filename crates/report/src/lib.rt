@@ -9,7 +9,7 @@ use refusal::Refusal;
 ghost use mathlib.Core.Path.{_≡_};
 ghost use Prim.Native.Nat.{_≤_};
 ghost use lib.ListN.{length};
-ghost use Rattle.seq.specs.Tab.{tab};
+ghost use Rattle.seq.specs.Lists.{tab};
 ghost use Rattle.layout.specs.Layout.{blockCount};
 ghost use Rattle.report.specs.Input.{voteFrom, bytesReading};
 ghost use Rattle.report.specs.Line.{textLine, refusedLine, lineOf, lineAs, Lends};
@@ -36,7 +36,7 @@ fn votes_in(bytes: &[u8]) -> [f32; 1024]
     let mut votes = [0.0f32; 1024];
     for k in 0..1024usize {
         let i = 4 * k;
-        let word = chacha20::little_endian(bytes[i], bytes[i + 1], bytes[i + 2], bytes[i + 3]);
+        let word = seq::little_endian(bytes[i], bytes[i + 1], bytes[i + 2], bytes[i + 3]);
         votes[k] = float::f32_from_bits(word);
     }
     votes

@@ -12,7 +12,8 @@ use lib.Seq.{take-at, drop-at, length-take-le, getD-set-same, getD-set-other}
 use lib.Ieee.{Float, nan}
 use Rattle.seq.specs.Tab.{tab-same}
 use Rattle.seq.specs.Lines.{part-tab}
-use Rattle.seq.specs.Part.{onPart, length-onPart, onPart-before, onPart-after}
+use Rattle.seq.specs.Part.{length-onPart, onPart-before, onPart-after}
+use Rattle.seq.specs.Lists.{onPart}
 use Rattle.seq.specs.Rows.{row-fits}
 
 -- `held` has, for each of the places, 0 or one more than the number of the row that stands there, n values from the place's first on

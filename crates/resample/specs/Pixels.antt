@@ -6,8 +6,8 @@ use native.Mathlib.Nat.{add-zero, add-sub-cancel-left, mul-comm}
 use native.Mathlib.Omega.{arith}
 use lib.ListN.{length, getD, take, drop, length-drop}
 use lib.Seq.{length-take-le, getD-append-add, getD-drop, paste, take-all, drop-drop}
-use Rattle.seq.specs.Tab.{tab, filled, length-tab}
-use Rattle.seq.specs.Part.{onPart}
+use Rattle.seq.specs.Tab.{length-tab}
+use Rattle.seq.specs.Lists.{tab, filled, onPart}
 use Rattle.seq.specs.Rows.{row-fits}
 use Rattle.resample.specs.Samples.{Sized, rowOf}
 

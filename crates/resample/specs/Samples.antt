@@ -7,8 +7,7 @@ use lib.Dec.{ltb}
 use lib.IntN.{pos}
 use lib.ListN.{length, take, drop, getD}
 use lib.Ieee.{Float, nan, binary32, ofBits, ofInt, add, mul}
-use Rattle.seq.specs.Tab.{tab}
-use Rattle.seq.specs.Lines.{lines}
+use Rattle.seq.specs.Lists.{tab, lines}
 use Rattle.float.specs.Calls.{roundedByte}
 use Rattle.resample_window.specs.Window.{longest}
 use Rattle.resample.specs.Resampled.{across, resampled}

@@ -6,7 +6,8 @@ use native.Mathlib.Omega.{arith}
 use lib.IntN.{ℤ, pos, _+ℤ_}
 use lib.ListN.{length, getD, replicate}
 use lib.Ieee.{Float, nan, binary32, add, mul}
-use Rattle.seq.specs.Tab.{tab, tab-same, getD-tab, length-tab, tab-replicate}
+use Rattle.seq.specs.Tab.{tab-same, getD-tab, length-tab, tab-replicate}
+use Rattle.seq.specs.Lists.{tab}
 use Rattle.float.specs.Base.{zero+}
 use mir.Syntax.{w64}
 use mir.Val.{toZ, ofZ}

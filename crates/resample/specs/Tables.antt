@@ -10,8 +10,8 @@ use lib.ListN.{length, getD, take, drop, length-append, length-drop, length-map,
 use lib.Seq.{take-at, take-suc, take-all, getD-take, getD-append-add}
 use lib.Ieee.{Float, nan, binary32, add, mul}
 use Rattle.float.specs.Base.{zero-}
-use Rattle.seq.specs.Tab.{tab, filled, length-tab, getD-tab}
-use Rattle.seq.specs.Lines.{lines}
+use Rattle.seq.specs.Tab.{length-tab, getD-tab}
+use Rattle.seq.specs.Lists.{tab, filled, lines}
 use Rattle.resample_window.specs.Window.{Tap, longest, taps, start, sources, weights, allTaps, onto}
 use Rattle.resample_window.specs.Taps.{length-onto, start-none, start-more, start-rises}
 use Rattle.resample_window_laws.specs.Reach.{reach, taps-from, taps-few, taps-room-down, taps-room-up}

@@ -3,7 +3,7 @@ ghost use mathlib.Core.Path.{_≡_};
 ghost use Prim.Native.Nat.{_<_};
 ghost use lib.ListN.{length, getD};
 ghost use lib.Ieee.{nan};
-ghost use Rattle.seq.specs.Tab.{tab};
+ghost use Rattle.seq.specs.Lists.{tab};
 ghost use Rattle.resample.specs.Resampled.{across};
 ghost use Rattle.resample.specs.Tables.{Tables, addedAt};
 

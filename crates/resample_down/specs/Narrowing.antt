@@ -6,7 +6,8 @@ use native.Mathlib.Omega.{arith}
 use lib.ListN.{length, getD, take, drop, length-append, length-drop}
 use lib.Seq.{getD-take, getD-drop}
 use lib.Ieee.{Float, nan}
-use Rattle.seq.specs.Tab.{tab, filled, length-tab, tab-same, getD-tab}
+use Rattle.seq.specs.Tab.{length-tab, tab-same, getD-tab}
+use Rattle.seq.specs.Lists.{tab, filled}
 use Rattle.seq.specs.Lines.{length-lines, getD-lines, part-tab}
 use Rattle.resample_window.specs.Window.{taps}
 use Rattle.resample.specs.Samples.{Sized, lumaAt, rowOf, narrowRow, planeRow}

@@ -6,7 +6,7 @@ ghost use mathlib.Core.Path.{_≡_};
 ghost use mathlib.Core.List.{[]};
 ghost use Prim.Native.Nat.{_+_, _<_, _≤_};
 ghost use lib.ListN.{length, take, drop};
-ghost use Rattle.seq.specs.Tab.{tab};
+ghost use Rattle.seq.specs.Lists.{tab};
 ghost use Rattle.resample_window.specs.Window.{tapsOf, Small};
 ghost use Rattle.resample.specs.Samples.{Sized, narrowRow, planeRow, planeOf};
 ghost use Rattle.resample.specs.Tables.{addedAt};

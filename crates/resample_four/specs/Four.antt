@@ -7,8 +7,7 @@ use lib.Dec.{ltb}
 use lib.IntN.{pos}
 use lib.ListN.{getD}
 use lib.Ieee.{Float, nan, binary32, ofInt, mul}
-use Rattle.seq.specs.Tab.{filled}
-use Rattle.seq.specs.Lines.{lines}
+use Rattle.seq.specs.Lists.{filled, lines}
 use Rattle.resample.specs.Samples.{red, green, blue, rowOf, lumaAt, narrowRow}
 
 -- ---- side by side

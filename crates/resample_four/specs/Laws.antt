@@ -12,8 +12,9 @@ use lib.ListN.{length, getD, set, take, drop, length-set, length-drop, List·get
 use lib.Seq.{ext-getD, length-take-le, getD-set-same, getD-set-other}
 use lib.Ieee.{Float, nan, binary32, ofInt, add, mul}
 use lib.Ieee.Bits.{is-true}
-use Rattle.seq.specs.Tab.{tab, filled, length-tab, getD-tab, tab-same, filled-more}
-use Rattle.seq.specs.Lines.{lines, lines-same, length-lines, getD-lines}
+use Rattle.seq.specs.Tab.{length-tab, getD-tab, tab-same, filled-more}
+use Rattle.seq.specs.Lists.{tab, filled, lines}
+use Rattle.seq.specs.Lines.{lines-same, length-lines, getD-lines}
 use Rattle.resample.specs.Resampled.{across}
 use Rattle.resample.specs.Samples.{lumaFrom, rowOf, lumaAt, narrowRow}
 use Rattle.resample.specs.Tables.{across-same}

@@ -9,9 +9,9 @@ use native.Mathlib.Omega.{arith}
 use lib.ListN.{length, getD, take, drop}
 use lib.Seq.{paste, take-all}
 use lib.Ieee.{Float, nan}
-use Rattle.seq.specs.Tab.{tab, length-tab, tab-same}
-use Rattle.seq.specs.Lines.{lines, pasted, part-tab, lines-same, lines-more, pasted-none, pasted-more, length-pasted, pasted-other}
-use Rattle.seq.specs.Part.{onPart}
+use Rattle.seq.specs.Tab.{length-tab, tab-same}
+use Rattle.seq.specs.Lists.{tab, lines, pasted, onPart}
+use Rattle.seq.specs.Lines.{part-tab, lines-same, lines-more, pasted-none, pasted-more, length-pasted, pasted-other}
 use Rattle.seq.specs.Rows.{row-fits}
 use Rattle.resample.specs.Samples.{rowOf, changeRow, changedAt, changedRow, changedOf}
 use Rattle.resample.specs.Pixels.{length-row, part-pasted}

@@ -12,7 +12,8 @@ use lib.ListN.{length, getD, set}
 use lib.Seq.{set-getD}
 use lib.Ieee.{Float, nan, binary32, add}
 use lib.Ieee.Bits.{is-true, is-false}
-use Rattle.seq.specs.Tab.{tab, filled, filled-more, filled-all}
+use Rattle.seq.specs.Tab.{filled-more, filled-all}
+use Rattle.seq.specs.Lists.{tab, filled}
 use Rattle.float.specs.Calls.{roundedByte}
 use Rattle.resample.specs.Samples.{changedAt, value, rowOf, wideRow, changedRow}
 use Rattle.resample.specs.Resampled.{across}

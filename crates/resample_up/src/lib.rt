@@ -7,7 +7,7 @@ ghost use Prim.Native.Nat.{_+_, _*_, _<_, _≤_};
 ghost use lib.ListN.{length, getD, take, drop};
 ghost use lib.IntN.{pos};
 ghost use lib.Ieee.{nan, binary32, add, ofInt};
-ghost use Rattle.seq.specs.Tab.{tab};
+ghost use Rattle.seq.specs.Lists.{tab};
 ghost use Rattle.float.specs.Calls.{roundedByte};
 ghost use Rattle.resample_window.specs.Window.{tapsOf, Small};
 ghost use Rattle.resample.specs.Samples.{Sized, wideRow, changeRow, changedRow, changedOf};

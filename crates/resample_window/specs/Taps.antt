@@ -8,7 +8,7 @@ use native.Mathlib.Nat.{le-refl, eq-or-lt-of-le}
 use native.Mathlib.Omega.{arith}
 use lib.ListN.{length, getD, set, take, drop, length-append, length-drop, length-map, List·getD-map}
 use lib.Seq.{paste, paste-suc, take-all, take-at, drop-append-add, drop-drop}
-use Rattle.seq.specs.Lines.{lines}
+use Rattle.seq.specs.Lists.{lines}
 use Rattle.resample_window.specs.declared.Window.{Window}
 use Rattle.resample_window.specs.Window.{Tap, windowOf, tapsOf, taps, Small, allTaps, start, onto}
 use Rattle.resample_window.specs.Range.{first-small, last-small}

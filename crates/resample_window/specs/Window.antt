@@ -12,7 +12,7 @@ use Rattle.resample_window.specs.declared.Window.{Window}
 use Rattle.resample_window.specs.declared.Weight.{Weight}
 use Rattle.resample_window.specs.declared.Weight.the-variants.{Of, Nothing}
 use lib.ListN.{length, drop}
-use Rattle.seq.specs.Lines.{lines}
+use Rattle.seq.specs.Lists.{lines}
 
 -- ---- a window
 

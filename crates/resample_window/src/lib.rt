@@ -7,7 +7,7 @@ ghost use lib.IntN.{pos, _+ℤ_};
 ghost use lib.ListN.{length};
 ghost use lib.Seq.{paste};
 ghost use lib.Signed.{mag};
-ghost use Rattle.seq.specs.Tab.{filled};
+ghost use Rattle.seq.specs.Lists.{filled};
 ghost use Rattle.resample_window.specs.Window.{tentOf, weightOf, sumOf, numbers, sized, hasWindow, empty, unsummed, summed, windowOf, clampOf, tapsOf, Small, start, sources, weights, allTaps, onto};
 use float::abs_f64;
 use float::ceil_f64_to_i64;

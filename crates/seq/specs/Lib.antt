@@ -1,3 +1,5 @@
+pub mod Bytes
+pub mod Lists
 pub mod Tab
 pub mod Part
 pub mod Sum

@@ -8,20 +8,11 @@ use native.Mathlib.Nat.{suc-mul, zero-mul, mul-comm, eq-or-lt-of-le}
 use native.Mathlib.Omega.{arith}
 use lib.ListN.{length, take, drop, getD, length-append, length-drop, List·getD-append}
 use lib.Seq.{paste, take-paste, drop-paste, take-all, length-paste, length-take-le, getD-append-add, getD-drop, getD-take, ext-getD}
-use Rattle.seq.specs.Tab.{tab, length-tab, getD-tab}
+use Rattle.seq.specs.Tab.{length-tab, getD-tab}
+use Rattle.seq.specs.Lists.{tab, lines, pasted}
 use Rattle.seq.specs.Rows.{row-fits}
 
 module _ {A : Type 0} where
-  -- l 0, l 1, .. l (n - 1), one after another
-  unfoldable pub lines : (ℕ → List A) → ℕ → List A
-  lines l zero = []
-  lines l (suc n) = lines l n ++ l n
-
-  -- d with l 0 pasted at `at 0`, l 1 at `at 1`, and so on to l (n - 1), w places each
-  unfoldable pub pasted : ℕ → (ℕ → ℕ) → (ℕ → List A) → ℕ → List A → List A
-  pasted w at l zero d = d
-  pasted w at l (suc n) d = paste (pasted w at l n d) (at n) (l n) w
-
   -- the n places of d from `at` on, as a table
   pub part-tab : (d : List A) (at n : ℕ) (z : A) → at + n ≤ length d → take n (drop at d) ≡ tab (λ i. getD d (at + i) z) n
   part-tab d at n z h =

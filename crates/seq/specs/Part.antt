@@ -5,12 +5,9 @@ use Prim.Native.Nat.{ℕ, _+_, _≤_, _<_}
 use native.Mathlib.Omega.{arith}
 use lib.ListN.{length, take, drop, getD, length-append, length-drop, List·getD-append}
 use lib.Seq.{drop-drop, length-take-le, getD-append-add, getD-drop, getD-take}
+use Rattle.seq.specs.Lists.{onPart}
 
 module _ {A : Type 0} where
-  -- the n places of d from a on, put through f
-  unfoldable pub onPart : ℕ → ℕ → (List A → List A) → List A → List A
-  onPart a n f d = take a d ++ (f (take n (drop a d)) ++ drop n (drop a d))
-
   -- where f keeps the length of the part, so does onPart that of the list
   pub length-onPart : (a n : ℕ) (f : List A → List A) (d : List A) → a + n ≤ length d → length (f (take n (drop a d))) ≡ n → length (onPart a n f d) ≡ length d
   unfolding onPart

@@ -3,22 +3,18 @@ use mathlib.Core.Path.{_≡_, refl}
 use Prim.Native.Nat.{ℕ, zero, suc, _+_, _<_}
 use native.Mathlib.Numerals.{add-one}
 use native.Mathlib.Omega.{arith}
+use Rattle.seq.specs.Lists.{sumTo}
 
 module _ {A : Type 0} (plus : A → A → A) (start : A) where
-  -- (..((start + f 0) + f 1) + ..) + f (n - 1)
-  unfoldable pub sumTo : ℕ → (ℕ → A) → A
-  sumTo zero f = start
-  sumTo (suc n) f = plus (sumTo n f) (f n)
-
-  pub sum-none : (f : ℕ → A) → start ≡ sumTo 0 f
+  pub sum-none : (f : ℕ → A) → start ≡ sumTo plus start 0 f
   unfolding sumTo
   sum-none f = refl
 
-  pub sum-more : (f : ℕ → A) (n : ℕ) (t : A) → t ≡ sumTo n f → plus t (f n) ≡ sumTo (n + 1) f
+  pub sum-more : (f : ℕ → A) (n : ℕ) (t : A) → t ≡ sumTo plus start n f → plus t (f n) ≡ sumTo plus start (n + 1) f
   unfolding sumTo
   sum-more f n t e = rw (add-one, e) refl
 
-  pub sum-same : (f g : ℕ → A) (n : ℕ) → ((i : ℕ) → i < n → f i ≡ g i) → sumTo n f ≡ sumTo n g
+  pub sum-same : (f g : ℕ → A) (n : ℕ) → ((i : ℕ) → i < n → f i ≡ g i) → sumTo plus start n f ≡ sumTo plus start n g
   unfolding sumTo
   sum-same f g zero h = refl
   sum-same f g (suc n) h = rw (sum-same f g n (λ i k. h i (omega arith)), h n (omega arith)) refl

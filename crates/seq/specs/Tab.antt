@@ -8,13 +8,9 @@ use native.Mathlib.Nat.{eq-or-lt-of-le, add-zero, add-suc}
 use native.Mathlib.Omega.{arith}
 use lib.ListN.{length, take, drop, set, getD, replicate, length-append, List·getD-append}
 use lib.Seq.{drop-cons, set-at, drop-length, take-suc-set, take-all, getD-at, ext-getD}
+use Rattle.seq.specs.Lists.{tab, filled}
 
 module _ {A : Type 0} where
-  -- f 0, f 1, .. f (n - 1)
-  unfoldable pub tab : (ℕ → A) → ℕ → List A
-  tab f zero = []
-  tab f (suc n) = tab f n ++ (f n ∷ [])
-
   pub length-tab : (f : ℕ → A) (n : ℕ) → length (tab f n) ≡ n
   unfolding tab
   length-tab f zero = refl
@@ -65,10 +61,6 @@ module _ {A : Type 0} where
 
   pub prefix-all : (f : ℕ → A) (n : ℕ) (xs : List A) → length xs ≡ n → take n xs ≡ tab f n → xs ≡ tab f n
   prefix-all f n xs l p = sym (take-all n xs (omega arith)) ∙ p
-
-  -- the list d with its first n places made by f
-  unfoldable pub filled : (ℕ → A) → ℕ → List A → List A
-  filled f n d = tab f n ++ drop n d
 
   pub filled-none : (f : ℕ → A) (d : List A) → d ≡ filled f 0 d
   unfolding filled tab

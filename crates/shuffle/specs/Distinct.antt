@@ -10,7 +10,8 @@ use borrow.Author.Tests.{eq-eqb, ne-eqb}
 use lib.Dec.{eqb, leb}
 use lib.ListN.{length, getD, set, take, length-set, length-take}
 use lib.Seq.{getD-set-same, getD-set-other, getD-take}
-use Rattle.seq.specs.Tab.{tab, length-tab, getD-tab}
+use Rattle.seq.specs.Tab.{length-tab, getD-tab}
+use Rattle.seq.specs.Lists.{tab}
 use Rattle.shuffle.specs.declared.Drawn.{Drawn}
 use Rattle.shuffle.specs.declared.Drawn.the-variants.{Found, End}
 use Rattle.shuffle.specs.Shuffle.{drawn, drawsFrom, exchanged, made, streamOf, shuffled, longest, shuffleOf}

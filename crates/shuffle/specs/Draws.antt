@@ -9,7 +9,7 @@ use native.Mathlib.Omega.{arith}
 use borrow.Author.Tests.{le-leb, lt-leb, lt-ltb, le-ltb}
 use lib.Dec.{leb, ltb}
 use lib.ListN.{getD, replicate}
-use Rattle.seq.specs.Tab.{tab}
+use Rattle.seq.specs.Lists.{tab}
 use Rattle.keystream.specs.Apply.{leftAt, bytesAfter}
 use Rattle.keystream.specs.Laws.{after-next, encrypted-zeros}
 use Rattle.shuffle.specs.declared.Drawn.{Drawn}

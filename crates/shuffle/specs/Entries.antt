@@ -7,7 +7,8 @@ use native.Mathlib.Omega.{arith}
 use lib.Dec.{leb}
 use lib.ListN.{length, take}
 use lib.Seq.{take-at}
-use Rattle.seq.specs.Tab.{tab, length-tab, tab-append}
+use Rattle.seq.specs.Tab.{length-tab, tab-append}
+use Rattle.seq.specs.Lists.{tab}
 use Rattle.shuffle.specs.declared.Drawn.{Drawn}
 use Rattle.shuffle.specs.declared.Drawn.the-variants.{Found, End}
 use Rattle.shuffle.specs.Shuffle.{drawn, drawsFrom, exchanged, onward, made, streamOf, shuffled, longest, shuffleOf}

@@ -5,21 +5,9 @@ use mathlib.Core.List.{[], _∷_, _++_}
 use Prim.Native.Nat.{ℕ, _-_, _^_}
 use lib.Dec.{ltb}
 use lib.ListN.{getD, take, replicate}
-use Rattle.seq.specs.Tab.{tab}
-use Rattle.chacha20.specs.Rfc8439.{
-  quarter,
-  quarterRound,
-  innerBlock,
-  rounds,
-  word,
-  initial,
-  sums,
-  littleEndian,
-  serialized,
-  blockFrom,
-  blockOf,
-  keystream,
-}
+use Rattle.seq.specs.Lists.{tab}
+use Rattle.chacha20.specs.Rfc8439.{quarter, quarterRound, innerBlock, rounds, initial, sums, serialized, blockFrom, chachaBlock, keystream}
+use Rattle.seq.specs.Bytes.{word, littleEndian}
 use Rattle.layout.specs.Layout.{blockCount, layout}
 use Rattle.shuffle.specs.declared.Drawn.the-variants.{Found, End}
 use Rattle.shuffle.specs.Shuffle.{valueAt, limit, drawn, exchanged, made, shuffled, layoutKey}
@@ -63,5 +51,5 @@ exchanged-once = refl
 
 -- the layout begins as the shuffle of 1,024 with its key does; that it is that shuffle to its end is run
 layout-begins : shuffled layoutKey blockCount 2 ≡ take 2 layout
-unfolding layout layoutKey shuffled made drawn valueAt limit exchanged tab keystream blockOf blockFrom serialized littleEndian sums rounds innerBlock quarterRound quarter initial word
+unfolding layout layoutKey shuffled made drawn valueAt limit exchanged tab keystream chachaBlock blockFrom serialized littleEndian sums rounds innerBlock quarterRound quarter initial word
 layout-begins = refl

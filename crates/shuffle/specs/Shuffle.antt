@@ -6,7 +6,7 @@ use mathlib.Core.List.{List, [], _∷_}
 use Prim.Native.Nat.{ℕ, zero, suc, _+_, _-_, _*_, _/_, _%_, _^_, min}
 use lib.Dec.{leb, ltb}
 use lib.ListN.{length, getD, set, take, replicate}
-use Rattle.seq.specs.Tab.{tab}
+use Rattle.seq.specs.Lists.{tab}
 use Rattle.chacha20.specs.Rfc8439.{keystream}
 use Rattle.keystream.specs.Apply.{leftAt}
 use Rattle.shuffle.specs.declared.Drawn.{Drawn}

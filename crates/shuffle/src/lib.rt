@@ -7,7 +7,7 @@ ghost use Prim.Native.Nat.{_+_, _^_, _≤_, _<_, min};
 ghost use mathlib.Core.Bool.{cond};
 ghost use lib.Dec.{leb, ltb};
 ghost use lib.ListN.{length, take, getD};
-ghost use Rattle.seq.specs.Tab.{tab};
+ghost use Rattle.seq.specs.Lists.{tab};
 ghost use Rattle.shuffle.specs.Shuffle.{valueAt, limit, drawn, drawsFrom, exchanged, made, streamOf, longest, shuffleOf, lentFor};
 
 // The longest list that is shuffled: it is held on the stack.
@@ -115,8 +115,8 @@ fn draw(key: &[u8; 32], from: Position, range: u64) -> Drawn
 fn value_of(bytes: &[u8; 8]) -> u64
     ensures { λ r. ⌜ r ≡ valueAt (λ k. getD (now (bytes .entry)) k 0) 0 ⌝ }
 {
-    let low = chacha20::little_endian(bytes[0], bytes[1], bytes[2], bytes[3]);
-    let high = chacha20::little_endian(bytes[4], bytes[5], bytes[6], bytes[7]);
+    let low = seq::little_endian(bytes[0], bytes[1], bytes[2], bytes[3]);
+    let high = seq::little_endian(bytes[4], bytes[5], bytes[6], bytes[7]);
     (low as u64) + (high as u64) * 0x1_0000_0000
 }
 

@@ -1,6 +1,6 @@
 -- The four terms put in their places.
 use borrow.Author.Needs.{needs}
-use Rattle.seq.specs.Sum.{sumTo}
+use Rattle.seq.specs.Lists.{sumTo}
 use Rattle.block.specs.Soft.{meanOfFour, voteOf}
 use Rattle.block.proofs.block_vote.Statement.{statement}
 use Rattle.block.proofs.block_vote.Tie as tie

@@ -9,8 +9,9 @@ use denote.Ref.{now}
 use lib.ListN.{length, take, drop, getD}
 use lib.Seq.{paste, length-paste, take-all}
 use lib.Ieee.{Float, nan}
-use Rattle.seq.specs.Tab.{tab, length-tab}
-use Rattle.seq.specs.Lines.{lines, lines-more, part-tab}
+use Rattle.seq.specs.Tab.{length-tab}
+use Rattle.seq.specs.Lists.{tab, lines}
+use Rattle.seq.specs.Lines.{lines-more, part-tab}
 use Rattle.dct.specs.Grid.{grid, lineOf}
 use Rattle.block.specs.Plane.{lineAt, loadOf, line-fits}
 use Rattle.block.proofs.load_block.Statement.{statement}

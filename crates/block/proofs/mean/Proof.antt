@@ -1,7 +1,7 @@
 -- The sum and its quotient, as they stand.
 use mathlib.Core.Path.{refl}
 use lib.Ieee.{neg, ofBits}
-use Rattle.seq.specs.Sum.{sumTo}
+use Rattle.seq.specs.Lists.{sumTo}
 use Rattle.block.specs.Soft.{meanOfFour}
 use Rattle.block.proofs.mean.Statement.{statement}
 use Rattle.block.proofs.mean.Tie as tie

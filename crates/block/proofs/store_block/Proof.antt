@@ -5,7 +5,8 @@ use Prim.Native.Nat.{_+_, _-_, _≤_}
 use native.Mathlib.Omega.{arith}
 use lib.ListN.{length}
 use Rattle.seq.specs.Tab.{length-tab}
-use Rattle.seq.specs.Lines.{pasted, pasted-none, pasted-more}
+use Rattle.seq.specs.Lines.{pasted-none, pasted-more}
+use Rattle.seq.specs.Lists.{pasted}
 use Rattle.dct.specs.Grid.{cell, lineOf}
 use Rattle.block.specs.Plane.{lineAt, storedOf, line-fits}
 use Rattle.block.proofs.store_block.Statement.{statement}

@@ -1,6 +1,6 @@
 -- At 8 and at 3 the tables of words compute to the words themselves, one call each.
 use borrow.Author.Needs.{needs}
-use Rattle.seq.specs.Tab.{tab}
+use Rattle.seq.specs.Lists.{tab}
 use Rattle.chacha20.specs.Rfc8439.{initial}
 use Rattle.chacha20.proofs.first_state.Statement.{statement}
 use Rattle.chacha20.proofs.first_state.Tie as tie

@@ -9,15 +9,16 @@ use native.Mathlib.Omega.{arith}
 use denote.Ref.{now}
 use lib.ListN.{length, take, set, getD, length-set, length-append}
 use lib.Seq.{sets-eq, take-at, take-all, length-take-le}
-use Rattle.seq.specs.Tab.{tab}
-use Rattle.chacha20.specs.Rfc8439.{plus, sums, littleEndian, serialized}
+use Rattle.seq.specs.Lists.{tab}
+use Rattle.chacha20.specs.Rfc8439.{plusWord, sums, serialized}
+use Rattle.seq.specs.Bytes.{littleEndian}
 use Rattle.chacha20.specs.Blocks.{serialized-more}
 use Rattle.chacha20.proofs.sum_bytes.Statement.{statement}
 use Rattle.chacha20.proofs.sum_bytes.Tie as tie
 
 -- word k of the sum
 abbrev sumAt : List ℕ → List ℕ → ℕ → ℕ
-sumAt s t k = plus (getD s k 0) (getD t k 0)
+sumAt s t k = plusWord (getD s k 0) (getD t k 0)
 
 -- four stores in a row
 stored : (a b c d n : ℕ) (xs : List ℕ) → n + 4 ≤ length xs → take (n + 4) (set (set (set (set xs n a) (n + 1) b) (n + 2) c) (n + 3) d) ≡ take n xs ++ (a ∷ b ∷ c ∷ d ∷ [])

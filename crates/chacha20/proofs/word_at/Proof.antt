@@ -1,6 +1,6 @@
 -- What `little_endian` ensures of the four bytes is the definition.
 use borrow.Author.Needs.{needs}
-use Rattle.chacha20.specs.Rfc8439.{word}
+use Rattle.seq.specs.Bytes.{word}
 use Rattle.chacha20.proofs.word_at.Statement.{statement}
 use Rattle.chacha20.proofs.word_at.Tie as tie
 

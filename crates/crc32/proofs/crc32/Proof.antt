@@ -2,7 +2,7 @@
 use mathlib.Core.Path.{refl, sym, ap, _∙_}
 use Prim.Native.Nat.{ℕ}
 use lib.Bits.{bitXor}
-use Rattle.seq.specs.Tab.{tab}
+use Rattle.seq.specs.Lists.{tab}
 use Rattle.crc32.specs.Shift.{registerTurn, registerTurns, table, tableEntry}
 use Rattle.crc32.specs.Bytes.{crc-after, crc-lt}
 use Rattle.crc32.proofs.crc32.Statement.{statement}

@@ -5,7 +5,8 @@ use Prim.Native.Nat.{_-_, _/_, _%_, _≤_}
 use native.Mathlib.Omega.{arith}
 use lib.ListN.{length, take}
 use lib.Ieee.{ofBits}
-use Rattle.seq.specs.Tab.{tab, prefix-more, prefix-all}
+use Rattle.seq.specs.Tab.{prefix-more, prefix-all}
+use Rattle.seq.specs.Lists.{tab}
 use Rattle.dct.specs.Matrix.{matrix, entry}
 use Rattle.dct.specs.Columns.{table-grid}
 use Rattle.dct.proofs.dct_matrix.Statement.{statement}

@@ -4,7 +4,8 @@ use mathlib.Core.Path.{_≡_, refl, _∙_}
 use Prim.Native.Nat.{_-_, _/_, _%_, _≤_}
 use native.Mathlib.Omega.{arith}
 use lib.ListN.{length, take}
-use Rattle.seq.specs.Tab.{tab, prefix-more, prefix-all}
+use Rattle.seq.specs.Tab.{prefix-more, prefix-all}
+use Rattle.seq.specs.Lists.{tab}
 use Rattle.dct.specs.Grid.{grid, cell-grid}
 use Rattle.dct.specs.Matrix.{entry, turnedEntry}
 use Rattle.dct.specs.Columns.{table-grid}

@@ -4,7 +4,8 @@ use mathlib.Core.Path.{_≡_}
 use Prim.Native.Nat.{_-_, _≤_}
 use native.Mathlib.Omega.{arith}
 use lib.Ieee.{binary32, add, mul, neg, ofBits}
-use Rattle.seq.specs.Sum.{sumTo, sum-none, sum-more}
+use Rattle.seq.specs.Sum.{sum-none, sum-more}
+use Rattle.seq.specs.Lists.{sumTo}
 use Rattle.float.specs.Base.{zero-}
 use Rattle.dct.specs.Grid.{cell}
 use Rattle.dct.specs.Product.{dotOf}

@@ -5,7 +5,8 @@ use Prim.Native.Nat.{_-_, _≤_}
 use native.Mathlib.Omega.{arith}
 use borrow.Author.Needs.{needs}
 use lib.ListN.{length, take, length-set}
-use Rattle.seq.specs.Tab.{tab, prefix-more, prefix-all}
+use Rattle.seq.specs.Tab.{prefix-more, prefix-all}
+use Rattle.seq.specs.Lists.{tab}
 use Rattle.decoder.specs.Decoder.{floats, bestAt, oddAt, nextMetrics}
 use Rattle.decoder.specs.Packed.{packed-lt, packed-more}
 use Rattle.decoder.specs.Decisions.{packed}

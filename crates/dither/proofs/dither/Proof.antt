@@ -3,7 +3,7 @@ use borrow.Author.Needs.{needs}
 use mathlib.Core.Path.{ap, _∙_}
 use mathlib.Core.List.{List}
 use Prim.Native.Nat.{ℕ}
-use Rattle.seq.specs.Tab.{tab}
+use Rattle.seq.specs.Lists.{tab}
 use Rattle.shuffle.specs.Shuffle.{layoutKey}
 use Rattle.dither.specs.Dither.{ditherNonce, dithered, group-of}
 use Rattle.dither.proofs.dither.Statement.{statement}

@@ -4,9 +4,10 @@ use mathlib.Core.Path.{_≡_, refl}
 use Prim.Native.Nat.{_-_, _≤_, _<_}
 use native.Mathlib.Omega.{arith}
 use lib.ListN.{length, take, length-set}
-use Rattle.seq.specs.Tab.{tab, prefix-more, prefix-all}
+use Rattle.seq.specs.Tab.{prefix-more, prefix-all}
+use Rattle.seq.specs.Lists.{tab}
 use Rattle.dither.specs.Dither.{dithered}
-use Rattle.chacha20.specs.Rfc8439.{word}
+use Rattle.seq.specs.Bytes.{word}
 use Rattle.dither.proofs.numbers.Statement.{statement}
 use Rattle.dither.proofs.numbers.Tie as tie
 

@@ -10,8 +10,9 @@ use lib.Bits.{bitXor}
 use lib.ListN.{length, take, drop, getD, length-drop}
 use lib.Seq.{length-take-le, getD-take, getD-drop}
 use borrow.Rule.Slice.PartMut.{putMid}
-use Rattle.seq.specs.Tab.{filled, filled-none, filled-all}
-use Rattle.chacha20.specs.Rfc8439.{blockOf, keystream, xored, encrypted}
+use Rattle.seq.specs.Tab.{filled-none, filled-all}
+use Rattle.seq.specs.Lists.{filled}
+use Rattle.chacha20.specs.Rfc8439.{chachaBlock, keystream, xored, encrypted}
 use Rattle.keystream.specs.Filled.{filled-rest, filled-part}
 use Rattle.chacha20.specs.Blocks.{block-counted, keystream-in}
 use Rattle.keystream.proofs.encrypt.Statement.{statement}
@@ -23,7 +24,7 @@ byteAt key nonce from bs k = bitXor (getD bs k 0) (keystream key nonce (from + k
 
 -- byte k of a turn, from the block that has it
 turned : (key nonce d : List ℕ) (from done r k : ℕ) → (from + done) % 64 + r ≤ 64 → k < r
-    → bitXor (getD (take r (drop done d)) k 0) (getD (blockOf key ((from + done) / 64) nonce) ((from + done) % 64 + k) 0) ≡ byteAt key nonce from d (done + k)
+    → bitXor (getD (take r (drop done d)) k 0) (getD (chachaBlock key ((from + done) / 64) nonce) ((from + done) % 64 + k) 0) ≡ byteAt key nonce from d (done + k)
 turned key nonce d from done r k l h =
     let p : ℕ = from + done in
     rw (getD-take r (drop done d) k 0 h, getD-drop done d k 0, ← keystream-in key nonce (p / 64) (p % 64 + k) (from + (done + k)) (omega arith) (omega arith))
@@ -32,7 +33,7 @@ turned key nonce d from done r k l h =
 turn : (key nonce d : List ℕ) (from done r : ℕ) → done + r ≤ length d → (from + done) % 64 + r ≤ 64
     → let b = filled (byteAt key nonce from d) done d in
     let part = take (done + r - done) (drop done b) in
-    putMid done (done + r - done) b (xored (λ k. getD (blockOf key ((from + done) / 64) nonce) k 0) ((from + done) % 64) part) ≡ filled (byteAt key nonce from d) (done + r) d
+    putMid done (done + r - done) b (xored (λ k. getD (chachaBlock key ((from + done) / 64) nonce) k 0) ((from + done) % 64) part) ≡ filled (byteAt key nonce from d) (done + r) d
 unfolding xored
 turn key nonce d from done r h l =
     let f : ℕ → ℕ = byteAt key nonce from d in

@@ -6,7 +6,8 @@ use native.Mathlib.Omega.{arith}
 use denote.Ref.{now}
 use lib.Bits.{bitXor}
 use lib.ListN.{length, getD}
-use Rattle.seq.specs.Tab.{filled, filled-none, filled-all}
+use Rattle.seq.specs.Tab.{filled-none, filled-all}
+use Rattle.seq.specs.Lists.{filled}
 use Rattle.chacha20.specs.Rfc8439.{xored}
 use Rattle.keystream.specs.Filled.{filled-step}
 use Rattle.keystream.proofs.xor_bytes.Statement.{statement}

@@ -4,7 +4,8 @@ use mathlib.Core.Path.{_≡_, refl}
 use Prim.Native.Nat.{_-_, _*_, _≤_}
 use native.Mathlib.Nat.{mul-add, mul-one}
 use native.Mathlib.Omega.{arith}
-use Rattle.seq.specs.Tab.{tab, prefix-all}
+use Rattle.seq.specs.Tab.{prefix-all}
+use Rattle.seq.specs.Lists.{tab}
 use Rattle.dct.specs.Grid.{grid}
 use Rattle.dct.specs.Matrix.{entry, turnedEntry}
 use Rattle.plane.specs.Plane.{votesOf}

@@ -8,7 +8,8 @@ use native.Mathlib.Omega.{arith}
 use denote.Ref.{now}
 use lib.ListN.{length, getD, take}
 use lib.Ieee.{Float, nan, binary32, sub}
-use Rattle.seq.specs.Tab.{tab, tab-same, prefix-more, prefix-all}
+use Rattle.seq.specs.Tab.{tab-same, prefix-more, prefix-all}
+use Rattle.seq.specs.Lists.{tab}
 use Rattle.dct.specs.Grid.{grid, cell}
 use Rattle.dct.specs.Columns.{table-grid}
 use Rattle.plane.proofs.difference.Statement.{statement}

@@ -1,6 +1,6 @@
 -- What is lent is the part that the definition names.
 use borrow.Author.Needs.{needs}
-use Rattle.seq.specs.Part.{onPart}
+use Rattle.seq.specs.Lists.{onPart}
 use Rattle.record.specs.Record.{covered}
 use Rattle.record.proofs.cover.Statement.{statement}
 use Rattle.record.proofs.cover.Tie as tie

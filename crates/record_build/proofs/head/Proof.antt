@@ -4,7 +4,8 @@ use mathlib.Core.Path.{_≡_, ap}
 use mathlib.Core.List.{List, _∷_}
 use Prim.Native.Nat.{ℕ}
 use lib.ListN.{length}
-use Rattle.seq.specs.Tab.{tab, tab-getD}
+use Rattle.seq.specs.Tab.{tab-getD}
+use Rattle.seq.specs.Lists.{tab}
 use Rattle.record.specs.Record.{headOf}
 use Rattle.record_build.proofs.head.Statement.{statement}
 use Rattle.record_build.proofs.head.Tie as tie

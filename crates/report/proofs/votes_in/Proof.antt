@@ -5,8 +5,9 @@ use Prim.Native.Nat.{_-_, _≤_, _<_}
 use native.Mathlib.Omega.{arith}
 use denote.Ref.{now}
 use lib.ListN.{length, take, length-set}
-use Rattle.seq.specs.Tab.{tab, prefix-more, prefix-all}
-use Rattle.chacha20.specs.Rfc8439.{word}
+use Rattle.seq.specs.Tab.{prefix-more, prefix-all}
+use Rattle.seq.specs.Lists.{tab}
+use Rattle.seq.specs.Bytes.{word}
 use Rattle.report.specs.Input.{voteFrom}
 use Rattle.report.proofs.votes_in.Statement.{statement}
 use Rattle.report.proofs.votes_in.Tie as tie

@@ -7,7 +7,7 @@ use native.Mathlib.Omega.{arith}
 use lib.ListN.{length, getD, take, drop, length-drop}
 use lib.Seq.{length-take-le}
 use lib.Ieee.{Float}
-use Rattle.seq.specs.Part.{onPart}
+use Rattle.seq.specs.Lists.{onPart}
 use Rattle.resample.specs.Kept.{part-size, kept-here, kept-new}
 use Rattle.resample_four.specs.Four.{narrowFour}
 use Rattle.resample_down.specs.Narrowing.{four-length, row-among, line-kept}

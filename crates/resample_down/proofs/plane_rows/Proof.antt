@@ -6,8 +6,9 @@ use native.Mathlib.Omega.{arith}
 use lib.ListN.{length, take, drop, length-drop}
 use lib.Seq.{length-take-le, take-all}
 use lib.Ieee.{Float}
-use Rattle.seq.specs.Lines.{lines, lines-more}
-use Rattle.seq.specs.Part.{onPart, length-onPart}
+use Rattle.seq.specs.Lines.{lines-more}
+use Rattle.seq.specs.Lists.{lines, onPart}
+use Rattle.seq.specs.Part.{length-onPart}
 use Rattle.resample.specs.Samples.{planeRow, planeOf}
 use Rattle.resample.specs.Pixels.{part-pasted}
 use Rattle.resample.specs.Kept.{part-size}

@@ -4,7 +4,8 @@ use Prim.Native.Nat.{_+_, _-_, _*_, _≤_, _<_}
 use native.Mathlib.Omega.{arith}
 use lib.ListN.{length, length-set}
 use denote.Ref.{now}
-use Rattle.seq.specs.Tab.{filled, filled-none}
+use Rattle.seq.specs.Tab.{filled-none}
+use Rattle.seq.specs.Lists.{filled}
 use Rattle.resample_four.specs.Four.{beside, one}
 use Rattle.resample_four.specs.Laws.{filled-four}
 use Rattle.resample.specs.Samples.{lumaAt}

@@ -4,7 +4,8 @@ use Prim.Native.Nat.{_+_, _-_, _*_, _≤_, _<_}
 use native.Mathlib.Omega.{arith}
 use lib.ListN.{length}
 use denote.Ref.{now}
-use Rattle.seq.specs.Tab.{filled, filled-none, filled-more, filled-all}
+use Rattle.seq.specs.Tab.{filled-none, filled-more, filled-all}
+use Rattle.seq.specs.Lists.{filled}
 use Rattle.resample.specs.Samples.{lumaAt}
 use Rattle.resample.specs.Pixels.{pixel-fits}
 use borrow.Author.Needs.{needs}

@@ -5,7 +5,7 @@ use native.Mathlib.Omega.{arith}
 use lib.ListN.{length, getD}
 use lib.Ieee.{Float, nan, binary32, add, mul, neg, ofBits}
 use denote.Ref.{now}
-use Rattle.seq.specs.Tab.{tab}
+use Rattle.seq.specs.Lists.{tab}
 use Rattle.float.specs.Base.{zero-}
 use Rattle.resample_window.specs.Window.{start}
 use Rattle.resample_window.specs.Taps.{start-rises}

@@ -4,7 +4,7 @@ use Prim.Native.Nat.{_+_, _-_, _*_, _≤_, _<_}
 use native.Mathlib.Omega.{arith}
 use lib.ListN.{length, getD}
 use lib.Ieee.{nan}
-use Rattle.seq.specs.Part.{onPart}
+use Rattle.seq.specs.Lists.{onPart}
 use Rattle.resample.specs.Samples.{changeRow, changedRow}
 use Rattle.resample.specs.Kept.{part-size}
 use Rattle.resample.specs.Pixels.{row-inside, part-row, length-row}

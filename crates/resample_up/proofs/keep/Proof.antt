@@ -5,7 +5,7 @@ use native.Mathlib.Numerals.{add-one}
 use native.Mathlib.Omega.{arith}
 use lib.ListN.{length, getD, take, drop, length-drop}
 use lib.Seq.{length-take-le}
-use Rattle.seq.specs.Part.{onPart}
+use Rattle.seq.specs.Lists.{onPart}
 use Rattle.resample.specs.Samples.{wideRow}
 use Rattle.resample.specs.Kept.{part-size, kept-here, kept-new}
 use Rattle.resample_up.specs.Widening.{wide-length}

@@ -6,7 +6,8 @@ use native.Mathlib.Omega.{arith}
 use lib.ListN.{length, getD, length-set}
 use lib.Ieee.{nan}
 use denote.Ref.{now}
-use Rattle.seq.specs.Tab.{filled, filled-none}
+use Rattle.seq.specs.Tab.{filled-none}
+use Rattle.seq.specs.Lists.{filled}
 use Rattle.resample.specs.Pixels.{pixel-fits}
 use Rattle.resample_up.specs.Written.{pixel-more, changed-all}
 use Rattle.resample.specs.Samples.{changedAt}

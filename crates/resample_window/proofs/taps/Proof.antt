@@ -3,7 +3,8 @@ use mathlib.Core.Path.{_≡_, refl, sym, _∙_, ap}
 use Prim.Native.Nat.{_+_, _-_, _≤_}
 use native.Mathlib.Omega.{arith}
 use lib.ListN.{length, length-set}
-use Rattle.seq.specs.Tab.{filled, filled-none, filled-more}
+use Rattle.seq.specs.Tab.{filled-none, filled-more}
+use Rattle.seq.specs.Lists.{filled}
 use Rattle.resample_window.specs.Window.{tapsOf, taps, windowOf, start, sources, weights, allTaps, onto}
 use Rattle.resample_window.specs.Taps.{window-small, taps-of, start-none, start-more, start-rises, all-none, all-pushed, all-length}
 use borrow.Author.Needs.{needs}

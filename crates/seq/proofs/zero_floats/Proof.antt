@@ -6,7 +6,8 @@ use native.Mathlib.Omega.{arith}
 use denote.Ref.{now}
 use lib.ListN.{length}
 use lib.Ieee.{binary32, ofBits}
-use Rattle.seq.specs.Tab.{filled, filled-none, filled-more, filled-replicate}
+use Rattle.seq.specs.Tab.{filled-none, filled-more, filled-replicate}
+use Rattle.seq.specs.Lists.{filled}
 use Rattle.seq.proofs.zero_floats.Statement.{statement}
 use Rattle.seq.proofs.zero_floats.Tie as tie
 

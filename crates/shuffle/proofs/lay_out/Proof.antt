@@ -4,7 +4,8 @@ use mathlib.Core.Path.{_≡_, _∙_}
 use Prim.Native.Nat.{ℕ, _-_, _≤_}
 use native.Mathlib.Omega.{arith}
 use lib.ListN.{length, getD}
-use Rattle.seq.specs.Tab.{filled, filled-none, filled-more, filled-all}
+use Rattle.seq.specs.Tab.{filled-none, filled-more, filled-all}
+use Rattle.seq.specs.Lists.{filled}
 use Rattle.shuffle.specs.Shuffle.{lentFor}
 use Rattle.shuffle.proofs.lay_out.Statement.{statement}
 use Rattle.shuffle.proofs.lay_out.Tie as tie

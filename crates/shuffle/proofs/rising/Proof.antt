@@ -4,7 +4,8 @@ use mathlib.Core.Path.{_≡_, refl}
 use Prim.Native.Nat.{ℕ, _-_, _≤_, _<_}
 use native.Mathlib.Omega.{arith}
 use lib.ListN.{length, take, length-set}
-use Rattle.seq.specs.Tab.{tab, prefix-more, prefix-all}
+use Rattle.seq.specs.Tab.{prefix-more, prefix-all}
+use Rattle.seq.specs.Lists.{tab}
 use Rattle.shuffle.proofs.rising.Statement.{statement}
 use Rattle.shuffle.proofs.rising.Tie as tie
 

@@ -9,7 +9,8 @@ use native.Mathlib.Omega.{arith}
 use denote.Ref.{now}
 use lib.Ieee.{Float}
 use lib.ListN.{length}
-use Rattle.seq.specs.Tab.{tab, filled, filled-none, filled-more, filled-all}
+use Rattle.seq.specs.Tab.{filled-none, filled-more, filled-all}
+use Rattle.seq.specs.Lists.{tab, filled}
 use Rattle.comparison.specs.Bulk.{roundedAt, roundedInto}
 use Rattle.comparison.proofs.float32.vk_round_all_to_u8.Statement.{statement}
 use Rattle.comparison.proofs.float32.vk_round_all_to_u8.Tie as tie

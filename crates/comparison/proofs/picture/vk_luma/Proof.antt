@@ -7,7 +7,7 @@ use Prim.Native.Nat.{ℕ}
 use denote.Ref.{now}
 use lib.Ieee.{Float}
 use lib.ListN.{length}
-use Rattle.seq.specs.Tab.{tab}
+use Rattle.seq.specs.Lists.{tab}
 use Rattle.resample.specs.Samples.{lumaAt}
 use Rattle.comparison.specs.Pictures.{luma-fits}
 use Rattle.comparison.specs.Stages.{hasLuma, lumaInto}

@@ -1,6 +1,6 @@
 -- What `from_big_endian` ensures of the four bytes is the definition.
 use borrow.Author.Needs.{needs}
-use Rattle.record.specs.Record.{numberAt}
+use Rattle.seq.specs.Bytes.{numberAt}
 use Rattle.record.proofs.crc.number_at.Statement.{statement}
 use Rattle.record.proofs.crc.number_at.Tie as tie
 

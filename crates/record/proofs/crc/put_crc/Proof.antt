@@ -4,7 +4,8 @@ use mathlib.Core.Path.{sym}
 use native.Mathlib.Omega.{arith}
 use denote.Ref.{now}
 use lib.Seq.{length-take-le}
-use Rattle.record.specs.Record.{bigEndian, withCrc}
+use Rattle.record.specs.Record.{withCrc}
+use Rattle.seq.specs.Bytes.{bigEndian}
 use Rattle.record.proofs.crc.put_crc.Statement.{statement}
 use Rattle.record.proofs.crc.put_crc.Tie as tie
 

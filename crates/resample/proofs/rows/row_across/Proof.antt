@@ -5,7 +5,8 @@ use native.Mathlib.Omega.{arith}
 use lib.ListN.{length, getD}
 use lib.Ieee.{nan}
 use denote.Ref.{now}
-use Rattle.seq.specs.Tab.{filled, filled-none, filled-more, filled-all}
+use Rattle.seq.specs.Tab.{filled-none, filled-more, filled-all}
+use Rattle.seq.specs.Lists.{filled}
 use Rattle.resample.specs.Resampled.{across}
 use borrow.Author.Needs.{needs}
 use Rattle.resample.proofs.rows.row_across.Statement.{statement}

@@ -1,8 +1,8 @@
 -- The four divisions and remainders of the definition.
 use borrow.Author.Needs.{needs}
-use Rattle.record.specs.Record.{bigEndian}
-use Rattle.record.proofs.crc.big_endian.Statement.{statement}
-use Rattle.record.proofs.crc.big_endian.Tie as tie
+use Rattle.seq.specs.Bytes.{bigEndian}
+use Rattle.seq.proofs.big_endian.Statement.{statement}
+use Rattle.seq.proofs.big_endian.Tie as tie
 
 returns : tie.Need-returns
 unfolding bigEndian
