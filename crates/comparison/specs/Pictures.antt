@@ -1,20 +1,14 @@
 -- A window as two lists, its numbers and its parts, a weight as whether there is one and its value, which rows of samples have a luma, which pictures have a plane, and which take a change of it.
 use mathlib.Core.Path.{_≡_, refl, sym, subst}
-use mathlib.Core.Bool.{Bool, true, false, cond, _&&_, false≢true}
-use mathlib.Core.List.{List, [], _∷_}
+use mathlib.Core.Bool.{Bool, true, false, _&&_, false≢true}
+use mathlib.Core.List.{List}
 use Prim.Native.Nat.{ℕ, _*_, _≤_, _<_}
 use native.Mathlib.Nat.{mul-le-mul-right}
 use native.Mathlib.Omega.{arith}
 use lib.Dec.{T, eqb, leb, ltb, leb→le, ltb→lt, eqb→eq}
-use lib.IntN.{ℤ}
-use lib.Ieee.{Float, binary32, ofBits}
 use lib.ListN.{length}
 use Rattle.resample_window.specs.Window.{sized}
-use Rattle.resample_window.specs.declared.Window.{Window}
-use Rattle.resample_window.specs.declared.Weight.{Weight}
-use Rattle.resample_window.specs.declared.Weight.the-variants.{Of, Nothing}
-use Rattle.seq.specs.Lists.{tab}
-use Rattle.resample.specs.Samples.{Sized, lumaAt, planeOf, changedOf}
+use Rattle.resample.specs.Samples.{Sized}
 use Rattle.comparison.specs.Stages.{hasSides, hasLuma, hasPlane, hasChange}
 
 -- ---- what the tests give

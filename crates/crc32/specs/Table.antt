@@ -1,13 +1,11 @@
 -- The table of the register's turns, and what stands at a place of it.
 use mathlib.Core.Path.{_≡_, ap₂, _∙_}
-use mathlib.Core.List.{List}
 use Prim.Native.Nat.{ℕ, _+_, _*_, _/_, _%_, _<_}
 use native.Mathlib.Omega.{arith}
 use lib.Bits.{bitXor}
 use lib.ListN.{getD}
 use lib.Pow.{field, mod-mod-pow}
 use Rattle.seq.specs.Tab.{getD-tab}
-use Rattle.seq.specs.Lists.{tab}
 use Rattle.crc32.specs.Shift.{reflected, registerTurns, tableEntry, table}
 use Rattle.crc32.specs.Turns.{turns-apart}
 

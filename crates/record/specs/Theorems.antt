@@ -7,7 +7,6 @@ use native.Mathlib.Omega.{arith}
 use lib.Dec.{eqb, leb, lit≤}
 use lib.ListN.{length, getD, take, replicate}
 use borrow.Author.Tests.{eq-eqb, ne-eqb, eqb-false, le-leb, leb-true}
-use Rattle.refusal.specs.declared.Refusal.{Refusal}
 use Rattle.refusal.specs.declared.Refusal.the-variants.{TextTooLong, TextNotUtf8, NoWatermark, PasswordRequired, Damaged, WrongPasswordOrDamaged}
 use Rattle.keystream.specs.declared.Applied.the-variants.{Next}
 use Rattle.keystream.specs.Apply.{appliedOf}

@@ -6,7 +6,7 @@ use native.Mathlib.Numerals.{add-one}
 use native.Mathlib.Nat.{zero-add}
 use native.Mathlib.Omega.{arith}
 use lib.ListN.{length, take, drop, set, replicate, length-append}
-use lib.Seq.{paste, paste-zero, take-length, take-paste, drop-paste, drop-drop, set-split, append-snoc}
+use lib.Seq.{paste-zero, take-length, take-paste, drop-paste, drop-drop, set-split, append-snoc}
 use Rattle.record.specs.Laws.{pasted-over}
 use Rattle.report.specs.Line.{lineRoom, lineAs}
 use Rattle.report.specs.Puts.{Puts}

@@ -6,3 +6,4 @@ pub mod Sum
 pub mod Table
 pub mod Rows
 pub mod Lines
+pub mod Fills

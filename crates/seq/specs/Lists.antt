@@ -2,7 +2,7 @@
 -- order. Definitions only.
 use mathlib.Core.List.{List, [], _∷_, _++_}
 use Prim.Native.Nat.{ℕ, zero, suc}
-use lib.ListN.{take, drop, length}
+use lib.ListN.{take, drop}
 use lib.Seq.{paste}
 
 module _ {A : Type 0} where
