@@ -1,4 +1,5 @@
--- Which pictures, samples and work areas can be used, from the scope paper, "What is said when nothing can be done": 3 to 7 for writing; 8 for a zero side, then 4 to 7 for reading. The first refusal that applies is given. Definitions only.
+-- Which pictures, samples and work areas can be used (sections 3 and 4 of the scope): 3 to 7 for writing; 8 for a zero side,
+-- then 4 to 7 for reading. The first refusal that applies is given. Definitions only.
 use mathlib.Core.Bool.{not, cond, _||_}
 use Prim.Native.Nat.{ℕ, _+_, _*_}
 use lib.Dec.{eqb, ltb}

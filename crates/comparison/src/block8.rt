@@ -1,4 +1,4 @@
-// Crates `transform` and `block`. The matrices are made at each call, but once for all blocks of `vk_there_and_back`.
+// Crates `dct` and `block`. The matrices are made at each call, but once for all blocks of `vk_there_and_back`.
 ghost use mathlib.Core.Path.{_≡_};
 ghost use Prim.Native.Nat.{_%_, _<_};
 ghost use Rattle.dct.specs.Grid.{grid};

@@ -1,4 +1,4 @@
-// Crates `window`, `resample`, `lanes`, `downsample` and `upsample`.
+// Crates `resample_window`, `resample_four`, `resample_down` and `resample_up`.
 use resample_window::Weight;
 use resample_window::Window;
 ghost use mathlib.Core.Path.{_≡_};

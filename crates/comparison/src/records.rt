@@ -1,4 +1,4 @@
-// Crates `build` and `parse`. An answer is given as 0 or as the refusal's number, and the number that goes with it
+// Crates `record_build` and `record_parse`. An answer is given as 0 or as the refusal's number, and the number that goes with it
 // at `given`.
 use record::Key;
 use record::Lock;

@@ -1,4 +1,4 @@
--- The record, from the scope paper, "Record and text": a byte for the mode, four for the salt, one for the length, the text
+-- The record (section 6 of the scope): a byte for the mode, four for the salt, one for the length, the text
 -- and its padding, and two CRC-32; how it is built and how it is read. Definitions only.
 use mathlib.Core.Bool.{Bool, true, not, cond, _&&_, _||_}
 use mathlib.Core.List.{List, [], _∷_, _++_}

@@ -1,6 +1,6 @@
-// The record: 46 bytes that hold a text of at most 32, in the clear or under a key. From the scope paper, "Record and
-// text", which specs/Record.antt is. Here are its places, what it is written and read with, and what writing (`build`)
-// and reading (`parse`) share: the cipher, the CRC-32 and the reading of what is refused.
+// The record: 46 bytes that hold a text of at most 32, in the clear or under a key. From the scope, section 6, which
+// specs/Record.antt states. Here are its places, what it is written and read with, and what writing (`record_build`) and
+// reading (`record_parse`) share: the cipher, the CRC-32 and the reading of what is refused.
 pub mod crc;
 
 use refusal::Answer;

@@ -1,5 +1,5 @@
-// The inside of a record in the clear: length, text, padding and inner CRC, held to what document 01 asks of them, for the
-// crate `parse`. The definition stands in record/specs/Record.antt.
+// The inside of a record in the clear: length, padding, inner CRC and text, tested in this order. For `record_parse`. The
+// definition stands in record/specs/Record.antt.
 use record::INNER;
 use record::LENGTH;
 use record::ROOM;

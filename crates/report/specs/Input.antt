@@ -1,4 +1,4 @@
--- What the program votes reads, from the scope paper: 4,096 bytes as 1,024 little-endian f32, no key. Definitions only.
+-- What the program votes reads (section 20 of the scope): 4,096 bytes as 1,024 little-endian f32, no key. Definitions only.
 use mathlib.Core.Bool.{false, not, cond}
 use mathlib.Core.List.{List}
 use Prim.Native.Nat.{ℕ}

@@ -1,4 +1,4 @@
--- The line that the program votes prints, from the scope paper: "text", length, the bytes in lowercase hex ("-" if none); or
+-- The line that the program votes prints (section 20 of the scope): "text", length, the bytes in lowercase hex ("-" if none); or
 -- "refused", number, number given, in decimal. In ASCII, and with the line's end. Definitions only.
 use mathlib.Core.Path.{_≡_}
 use mathlib.Core.Bool.{cond}

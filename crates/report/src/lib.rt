@@ -1,5 +1,5 @@
 // The line that the program `votes` answers its input with: the input as votes, read with no key, and the
-// answer in words. From the scope paper, which specs/Input.antt and specs/Line.antt are.
+// answer in words. From the scope, section 20, which specs/Input.antt and specs/Line.antt state.
 mod put;
 
 use record::Key;

@@ -1,5 +1,5 @@
--- Writing a text into a picture and reading it from a picture: from the scope paper, "What is said when nothing can be
--- done". The first refusal that applies is given. Definitions only.
+-- Writing a text into a picture, and reading it from a picture (sections 3, 4 and 18 of the scope). The first refusal that
+-- applies is given. Definitions only.
 use mathlib.Core.List.{List}
 use Prim.Native.Nat.{ℕ}
 use lib.ListN.{length}

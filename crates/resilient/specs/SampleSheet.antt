@@ -1,4 +1,4 @@
--- The sample sheet of the scope paper: every line that it marks as proved, in one statement, computed over the
+-- The sample sheet of the scope (section 21): every line that is marked as proved, in one statement, computed over the
 -- definitions.
 use mathlib.Core.Path.{_≡_, refl}
 use mathlib.Core.List.{List, [], _∷_, _++_}

@@ -1,6 +1,5 @@
-// The mark as a whole: a text written into a picture's samples, and read from them. For the archive, its indexer and the
-// crates that offer this to them; the one place that knows the order in which writing and reading refuse. From the scope
-// paper, which specs/Resilient.antt is.
+// The mark as a whole: a text written into a picture's samples, and read from them, with every refusal in its order. For
+// hosts. From the scope, sections 3, 4 and 18, which specs/Resilient.antt states.
 use picture::Picture;
 use record::Key;
 use record::Lock;
@@ -10,7 +9,7 @@ ghost use mathlib.Core.Path.{_≡_};
 ghost use Rattle.resilient.specs.Resilient.{writtenOf, readingOf};
 
 // Writes the text into the picture, plain or under the lock's key. Refused, with samples and work area as they were
-// lent: 1 to 7 of the scope paper's table, the first that applies. Otherwise the work area ends as zeros.
+// lent: 1 to 7, the first that applies. Otherwise the work area ends as zeros.
 pub fn write(
     samples: &mut [u8],
     picture: Picture,
@@ -36,7 +35,7 @@ pub fn write(
 }
 
 // The text that the picture carries, read with a key or with none. Refused, with the work area as it was lent: a zero
-// side, and 4 to 7 of the scope paper's table. Refused behind these is what `parse_record` refuses; then, and where the
+// side, and 4 to 7. Refused behind these is what `parse_record` refuses; then, and where the
 // text is read, the work area ends as zeros.
 pub fn read(samples: &[u8], picture: Picture, key: Key, work: &mut [f32]) -> Reading
     ensures reading { λ r. ⌜ r ≡ readingOf key picture (now (samples .entry)) (now (work .entry)) .reading ⌝ }

@@ -1,4 +1,4 @@
--- The scope paper's check on writing, "Record and text": lead bytes and how many bytes follow them, and no more than that. Definitions only.
+-- The scope's check on writing (section 5): a lead byte, and how many bytes follow it; no more than that. Definitions only.
 use mathlib.Core.Bool.{Bool}
 use mathlib.Core.List.{List, []}
 use Prim.Native.Nat.{ℕ}

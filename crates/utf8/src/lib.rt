@@ -1,4 +1,4 @@
-// Text as bytes. `well_formed` is UTF-8 by RFC 3629, which decides on reading. `counted` is the scope paper's check on
+// Text as bytes. `well_formed` is UTF-8 by RFC 3629, which decides on reading. `counted` is the scope's check on
 // writing: it counts the bytes that follow a lead byte, and lets overlong forms, surrogates and numbers above 10FFFF pass.
 ghost use mathlib.Core.Path.{_≡_};
 ghost use Prim.Native.Nat.{_≤_};
