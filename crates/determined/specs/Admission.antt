@@ -1,5 +1,6 @@
 -- Crate `admission`: each public function's promise determines its outcome.
-use Rattle.determined.specs.One.{Determined, one}
+use Rattle.determined.specs.One.{one}
+use Rattle.determined.specs.Determined.{Determined}
 use Rattle.admission.proofs as admission
 
 pub may-write-one : Determined admission.may_write.ended admission.may_write.Reads.Post

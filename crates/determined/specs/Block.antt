@@ -1,5 +1,6 @@
 -- Crate `block`: each public function's promise determines its outcome.
-use Rattle.determined.specs.One.{Determined, one}
+use Rattle.determined.specs.One.{one}
+use Rattle.determined.specs.Determined.{Determined}
 use Rattle.block.proofs as block
 
 pub mark-block-one : Determined block.mark_block.ended block.mark_block.Reads.Post

@@ -1,5 +1,6 @@
 -- Crate `carrier`: each public function's promise determines its outcome.
-use Rattle.determined.specs.One.{Determined, one}
+use Rattle.determined.specs.One.{one}
+use Rattle.determined.specs.Determined.{Determined}
 use Rattle.carrier.proofs as carrier
 
 pub mark-one : Determined carrier.mark.ended carrier.mark.Reads.Post

@@ -1,5 +1,6 @@
 -- Crate `chacha20`: each public function's promise determines its outcome.
-use Rattle.determined.specs.One.{Determined, one}
+use Rattle.determined.specs.One.{one}
+use Rattle.determined.specs.Determined.{Determined}
 use Rattle.chacha20.proofs as chacha20
 
 pub quarter-one : Determined chacha20.quarter.ended chacha20.quarter.Reads.Post

@@ -1,5 +1,6 @@
 -- Crate `crc32`: each public function's promise determines its outcome.
-use Rattle.determined.specs.One.{Determined, one}
+use Rattle.determined.specs.One.{one}
+use Rattle.determined.specs.Determined.{Determined}
 use Rattle.crc32.proofs as crc32
 
 pub crc32-one : Determined crc32.crc32.ended crc32.crc32.Reads.Post

@@ -1,5 +1,6 @@
 -- Crate `dct`: each public function's promise determines its outcome.
-use Rattle.determined.specs.One.{Determined, one}
+use Rattle.determined.specs.One.{one}
+use Rattle.determined.specs.Determined.{Determined}
 use Rattle.dct.proofs as dct
 
 pub dct-matrix-one : Determined dct.dct_matrix.ended dct.dct_matrix.Reads.Post

@@ -1,5 +1,6 @@
 -- Crate `decoder`: each public function's promise determines its outcome. Not here, since their module is private: `first_out`, `second_out`.
-use Rattle.determined.specs.One.{Determined, one}
+use Rattle.determined.specs.One.{one}
+use Rattle.determined.specs.Determined.{Determined}
 use Rattle.decoder.proofs as decoder
 
 pub viterbi-one : Determined decoder.viterbi.ended decoder.viterbi.Reads.Post

@@ -1,5 +1,6 @@
 -- Crate `dither`: each public function's promise determines its outcome.
-use Rattle.determined.specs.One.{Determined, one}
+use Rattle.determined.specs.One.{one}
+use Rattle.determined.specs.Determined.{Determined}
 use Rattle.dither.proofs as dither
 
 pub dither-one : Determined dither.dither.ended dither.dither.Reads.Post

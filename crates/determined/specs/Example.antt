@@ -6,7 +6,7 @@ use lib.Ieee.{Float}
 use contract.Lifetimes.{Lfts}
 use denote.Ref.{RefT, now}
 use denote.Triple.Entry.{Args}
-use Rattle.determined.specs.One.{Ending, Allows}
+use Rattle.determined.specs.Determined.{Ending, Allows}
 use Rattle.refusal.specs.declared.Answer.{Answer}
 use Rattle.record.specs.declared.Lock.{Lock}
 use Rattle.picture.specs.declared.Picture.{Picture}

@@ -1,5 +1,6 @@
 -- Crate `extract`: each public function's promise determines its outcome.
-use Rattle.determined.specs.One.{Determined, one}
+use Rattle.determined.specs.One.{one}
+use Rattle.determined.specs.Determined.{Determined}
 use Rattle.extract.proofs as extract
 
 pub text-of-one : Determined extract.text_of.ended extract.text_of.Reads.Post

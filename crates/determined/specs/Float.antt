@@ -1,5 +1,6 @@
 -- Crate `float`: each public function's promise determines its outcome.
-use Rattle.determined.specs.One.{Determined, one}
+use Rattle.determined.specs.One.{one}
+use Rattle.determined.specs.Determined.{Determined}
 use Rattle.float.proofs as float
 
 pub round-f32-one : Determined float.round_f32.ended float.round_f32.Reads.Post

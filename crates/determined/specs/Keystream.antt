@@ -1,5 +1,6 @@
 -- Crate `keystream`: each public function's promise determines its outcome.
-use Rattle.determined.specs.One.{Determined, one}
+use Rattle.determined.specs.One.{one}
+use Rattle.determined.specs.Determined.{Determined}
 use Rattle.keystream.proofs as keystream
 
 pub apply-one : Determined keystream.apply.ended keystream.apply.Reads.Post

@@ -1,5 +1,6 @@
 -- Crate `layout`: each public function's promise determines its outcome.
-use Rattle.determined.specs.One.{Determined, one}
+use Rattle.determined.specs.One.{one}
+use Rattle.determined.specs.Determined.{Determined}
 use Rattle.layout.proofs as layout
 
 pub block-bits-one : Determined layout.block_bits.ended layout.block_bits.Reads.Post

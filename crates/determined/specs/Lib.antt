@@ -1,3 +1,4 @@
+pub mod Determined
 pub mod One
 pub mod Seq
 pub mod Refusal

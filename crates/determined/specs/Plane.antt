@@ -1,5 +1,6 @@
 -- Crate `plane`: each public function's promise determines its outcome.
-use Rattle.determined.specs.One.{Determined, one}
+use Rattle.determined.specs.One.{one}
+use Rattle.determined.specs.Determined.{Determined}
 use Rattle.plane.proofs as plane
 
 pub embed-bits-one : Determined plane.embed_bits.ended plane.embed_bits.Reads.Post

@@ -1,5 +1,6 @@
 -- Crate `record`: each public function's promise determines its outcome.
-use Rattle.determined.specs.One.{Determined, one}
+use Rattle.determined.specs.One.{one}
+use Rattle.determined.specs.Determined.{Determined}
 use Rattle.record.proofs as rec
 
 pub number-at-one : Determined rec.crc.number_at.ended rec.crc.number_at.Reads.Post

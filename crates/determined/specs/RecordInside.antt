@@ -1,5 +1,6 @@
 -- Crate `record_inside`: each public function's promise determines its outcome.
-use Rattle.determined.specs.One.{Determined, one}
+use Rattle.determined.specs.One.{one}
+use Rattle.determined.specs.Determined.{Determined}
 use Rattle.record_inside.proofs as record_inside
 
 pub sound-one : Determined record_inside.sound.ended record_inside.sound.Reads.Post

@@ -1,5 +1,6 @@
 -- Crate `refusal`: each public function's promise determines its outcome.
-use Rattle.determined.specs.One.{Determined, one}
+use Rattle.determined.specs.One.{one}
+use Rattle.determined.specs.Determined.{Determined}
 use Rattle.refusal.proofs as refusal
 
 pub number-one : Determined refusal.number.ended refusal.number.Reads.Post

@@ -1,5 +1,6 @@
 -- Crate `report`: each public function's promise determines its outcome. Not here, since their module is private: `bytes`, `decimal`, `hex`.
-use Rattle.determined.specs.One.{Determined, one}
+use Rattle.determined.specs.One.{one}
+use Rattle.determined.specs.Determined.{Determined}
 use Rattle.report.proofs as report
 
 pub read-bytes-one : Determined report.read_bytes.ended report.read_bytes.Reads.Post

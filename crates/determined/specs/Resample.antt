@@ -1,5 +1,6 @@
 -- Crate `resample`: each public function's promise determines its outcome.
-use Rattle.determined.specs.One.{Determined, one}
+use Rattle.determined.specs.One.{one}
+use Rattle.determined.specs.Determined.{Determined}
 use Rattle.resample.proofs as resample
 
 pub row-across-one : Determined resample.rows.row_across.ended resample.rows.row_across.Reads.Post

@@ -1,5 +1,6 @@
 -- Crate `resample_down`: its public function's promise determines its outcome.
-use Rattle.determined.specs.One.{Determined, one}
+use Rattle.determined.specs.One.{one}
+use Rattle.determined.specs.Determined.{Determined}
 use Rattle.resample_down.proofs as resample_down
 
 pub plane-one : Determined resample_down.plane.ended resample_down.plane.Reads.Post

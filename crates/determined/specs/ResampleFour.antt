@@ -1,5 +1,6 @@
 -- Crate `resample_four`: each public function's promise determines its outcome.
-use Rattle.determined.specs.One.{Determined, one}
+use Rattle.determined.specs.One.{one}
+use Rattle.determined.specs.Determined.{Determined}
 use Rattle.resample_four.proofs as resample_four
 
 pub luma-one : Determined resample_four.luma.ended resample_four.luma.Reads.Post

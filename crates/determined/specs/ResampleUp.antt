@@ -1,5 +1,6 @@
 -- Crate `resample_up`: its public function's promise determines its outcome.
-use Rattle.determined.specs.One.{Determined, one}
+use Rattle.determined.specs.One.{one}
+use Rattle.determined.specs.Determined.{Determined}
 use Rattle.resample_up.proofs as resample_up
 
 pub change-samples-one : Determined resample_up.change_samples.ended resample_up.change_samples.Reads.Post

@@ -1,5 +1,6 @@
 -- Crate `resample_window`: each public function's promise determines its outcome.
-use Rattle.determined.specs.One.{Determined, one}
+use Rattle.determined.specs.One.{one}
+use Rattle.determined.specs.Determined.{Determined}
 use Rattle.resample_window.proofs as resample_window
 
 pub new-one : Determined resample_window.Window.new.ended resample_window.Window.new.Reads.Post

@@ -1,5 +1,6 @@
 -- Crate `resilient`: each public function's promise determines its outcome.
-use Rattle.determined.specs.One.{Determined, one}
+use Rattle.determined.specs.One.{one}
+use Rattle.determined.specs.Determined.{Determined}
 use Rattle.resilient.proofs as resilient
 
 pub write-one : Determined resilient.write.ended resilient.write.Reads.Post

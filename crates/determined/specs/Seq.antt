@@ -1,5 +1,6 @@
 -- Crate `seq`: each public function's promise determines its outcome.
-use Rattle.determined.specs.One.{Determined, one}
+use Rattle.determined.specs.One.{one}
+use Rattle.determined.specs.Determined.{Determined}
 use Rattle.seq.proofs as seq
 
 pub zero-floats-one : Determined seq.zero_floats.ended seq.zero_floats.Reads.Post

@@ -1,5 +1,6 @@
 -- Crate `shuffle`: each public function's promise determines its outcome.
-use Rattle.determined.specs.One.{Determined, one}
+use Rattle.determined.specs.One.{one}
+use Rattle.determined.specs.Determined.{Determined}
 use Rattle.shuffle.proofs as shuffle
 
 pub shuffle-one : Determined shuffle.shuffle.ended shuffle.shuffle.Reads.Post

@@ -1,5 +1,6 @@
 -- Crate `utf8`: each public function's promise determines its outcome.
-use Rattle.determined.specs.One.{Determined, one}
+use Rattle.determined.specs.One.{one}
+use Rattle.determined.specs.Determined.{Determined}
 use Rattle.utf8.proofs as utf8
 
 pub well-formed-one : Determined utf8.well_formed.ended utf8.well_formed.Reads.Post

@@ -1,5 +1,6 @@
 -- Crate `vaikelomu`: each public function's promise determines its outcome.
-use Rattle.determined.specs.One.{Determined, one}
+use Rattle.determined.specs.One.{one}
+use Rattle.determined.specs.Determined.{Determined}
 use Rattle.vaikelomu.proofs as vaikelomu
 
 pub vaikelomu-write-one : Determined vaikelomu.vaikelomu_write.ended vaikelomu.vaikelomu_write.Reads.Post
