@@ -29,7 +29,7 @@ use Rattle.record.specs.Record.{short, saltAt, lengthAt, textAt, outerAt, numbe
 use Rattle.record.specs.Answers.{readAs}
 use Rattle.record.specs.Laws.{sound-length}
 use Rattle.layout.specs.Layout.{blockCount}
-use Rattle.extract.specs.Extract.{goodVotes, votesOutcome, votesReading}
+use Rattle.extract.specs.Extract.{recordOutcome, parsedFrom, votesOutcome, votesReading}
 use Rattle.report.specs.Input.{voteAt, noKey, bytesReading}
 use Rattle.report.specs.Line.{digit, digits, decimal, pairs, hex, room, lineAs, Lends}
 
@@ -131,9 +131,11 @@ parsed-short bs key =
 
 votes-short : (votes : List Float) (key : Key) → Short (votesOutcome votes key)
 unfolding votesOutcome
-votes-short votes key =
-    either (not (eqb (length votes) blockCount)) _ _ (none (BadLength (length votes)))
-    (either (ltb (goodVotes votes) blockCount) _ _ (none (BadVote (goodVotes votes))) (parsed-short _ key))
+votes-short votes key = go (recordOutcome votes)
+  where
+    go : (o : Outcome) → Short (parsedFrom o key)
+    go (refused r) = none r
+    go (gives bs) = parsed-short bs key
 
 pub bytes-fit : (bytes : List ℕ) → Fits (bytesReading bytes)
 unfolding bytesReading votesReading
