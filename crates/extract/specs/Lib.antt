@@ -1,2 +1,5 @@
 pub mod Extract
+pub mod Laws
 pub mod Theorems
+pub mod Written
+pub mod EndToEnd

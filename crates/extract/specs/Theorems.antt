@@ -1,49 +1,65 @@
--- What can be relied on beyond the equations:
---   votes-correct    demand 3 for reading from votes: what the decoder corrects, the reader reads
-use mathlib.Core.Path.{_≡_, refl, ap, _∙_}
-use mathlib.Core.Bool.{true, false}
-use mathlib.Core.List.{List, [], _∷_}
-use Prim.Native.Nat.{ℕ, zero, suc, _+_, _*_, _≤_, _<_}
-use native.Mathlib.Omega.{arith}
-use lib.ListN.{length, getD}
-use lib.Ieee.{Float, nan}
-use borrow.Author.Tests.{eq-eqb, le-ltb}
-use Rattle.float.specs.Calls.{inUnit}
+-- What may be relied on beyond the equations of Extract.antt: demand 3, in the words of correction/specs/Demand3.antt, for
+-- what `record_of` and `read_votes` answer. The proofs rest on Laws.antt and on the theorems of the crate `correction`.
+use mathlib.Core.Path.{_≡_, ap, _∙_, subst, sym}
+use mathlib.Core.List.{List}
+use Prim.Native.Nat.{ℕ, _+_, _*_, _≤_}
+use lib.IntN.{ℤ}
+use lib.ListN.{length}
+use lib.Signed.{_≤ℤ_}
+use lib.Ieee.{Float}
+use Rattle.refusal.specs.declared.Refusal.the-variants.{BadLength, BadVote}
+use Rattle.record.specs.declared.Answer.{Answer}
+use Rattle.record.specs.declared.Answer.the-variants.{Done, Refused}
 use Rattle.record.specs.declared.Key.{Key}
-use Rattle.record.specs.Record.{short, gives, parsedOf}
+use Rattle.record.specs.declared.Reading.{Reading}
+use Rattle.record.specs.Record.{short, Outcome, gives, parsedOf}
 use Rattle.record.specs.Answers.{readAs}
 use Rattle.layout.specs.Layout.{blockCount}
-use Rattle.correction.specs.Demand3.{IsRecord, bitIn, Fate, kept, zeroed, reversed, votedF, zeroedCount, reversedCount, Laid}
-use Rattle.correction.specs.Theorems.{corrects}
-use Rattle.extract.specs.Extract.{goodVotes, decodedOutcome, votesOutcome, votesReading}
+use Rattle.correction.specs.Demand3.{IsRecord, decodedFrom, WholeVotes, scoreOf, Fate, zeroedCount, reversedCount, Laid}
+use Rattle.correction.specs.Theorems.{best, corrects}
+use Rattle.extract.specs.declared.Decoded.{Decoded}
+use Rattle.extract.specs.Extract.{decodedAs, recordReading, votesReading}
+use Rattle.extract.specs.Laws.{decodes-on, reads-on, laid-good, whole-good, parsed-neither}
 
--- ---- votes that are all good
+-- ---- `record_of`
 
-pub all-good : (votes : List Float) → ((b : ℕ) → b < length votes → inUnit (getD votes b nan) ≡ true) → goodVotes votes ≡ length votes
-unfolding goodVotes
-all-good [] good = refl
-all-good (v ∷ vs) good = rw (good zero (omega arith), all-good vs (λ b h. good (suc b) (omega arith)))
+-- votes that are whole multiples of 1/1024 from -1 to 1 are not refused, and no record scores above the one answered
+pub record-best : (votes : List Float) (zs : List ℤ) → WholeVotes votes zs
+    → (recordReading votes .answer ≡ Done) × ((ys : List ℕ) → IsRecord ys → scoreOf zs ys ≤ℤ scoreOf zs (recordReading votes .bytes))
+unfolding recordReading
+record-best votes zs w =
+    let e = decodes-on votes (w .many) (whole-good votes zs w) in
+    (ap (λ (o : Outcome). decodedAs o .answer) e, rw e (best votes zs w))
 
--- and a reader gets to the record
-pub reads-on : (votes : List Float) (key : Key) → length votes ≡ blockCount → goodVotes votes ≡ length votes → votesOutcome votes key ≡ decodedOutcome votes key
-unfolding votesOutcome
-reads-on votes key many good = rw (eq-eqb (length votes) blockCount many, le-ltb (goodVotes votes) blockCount (omega (arith, good, many)))
+-- a record laid over the blocks, e votes made zero and f others reversed, e + 2 f <= 9, is answered
+pub record-correct : (xs : List ℕ) (fates : List Fate) (votes : List Float) → IsRecord xs → length votes ≡ blockCount
+    → zeroedCount fates + 2 * reversedCount fates ≤ 9 → Laid xs fates votes → recordReading votes ≡ decodedAs (gives xs)
+unfolding recordReading
+record-correct xs fates votes x many few laid =
+    ap decodedAs (decodes-on votes many (laid-good xs fates votes many laid) ∙ ap gives (corrects xs fates votes x few laid))
 
--- ---- the theorem
+-- ---- `read_votes`
 
-voted-good : (c : ℕ) (fate : Fate) → inUnit (votedF c fate) ≡ true
-unfolding inUnit
-voted-good zero kept = refl
-voted-good (suc c) kept = refl
-voted-good c (zeroed true) = refl
-voted-good c (zeroed false) = refl
-voted-good zero reversed = refl
-voted-good (suc c) reversed = refl
-
--- a record that carries a text, laid over the blocks, e votes made zero and f others reversed, e + 2 f <= 9, is read as that text
-pub votes-correct : (xs text : List ℕ) (key : Key) (fates : List Fate) (votes : List Float) → IsRecord xs → parsedOf short xs key ≡ gives text
-    → length votes ≡ blockCount → zeroedCount fates + 2 * reversedCount fates ≤ 9 → Laid xs fates votes → votesReading votes key ≡ readAs (gives text)
+-- what is read in such votes is read in a record that no record outscores
+pub votes-best : (votes : List Float) (zs : List ℤ) (key : Key) → WholeVotes votes zs
+    → (votesReading votes key ≡ readAs (parsedOf short (decodedFrom votes) key))
+    × ((ys : List ℕ) → IsRecord ys → scoreOf zs ys ≤ℤ scoreOf zs (decodedFrom votes))
 unfolding votesReading
-votes-correct xs text key fates votes whole carries many few laid =
-    let good = all-good votes (λ b h. ap inUnit (laid .vote b (omega arith)) ∙ voted-good (bitIn xs b) (getD fates b kept)) in
-    ap readAs (reads-on votes key many good ∙ (ap (λ (bs : List ℕ). parsedOf short bs key) (corrects xs fates votes whole few laid) ∙ carries))
+votes-best votes zs key w = (ap readAs (reads-on votes key (w .many) (whole-good votes zs w)), best votes zs w)
+
+-- and they are never refused with 6 or 15
+pub votes-taken : (votes : List Float) (zs : List ℤ) (key : Key) → WholeVotes votes zs
+    → (n : ℕ) → (votesReading votes key .answer ≡ Refused (BadLength n) → ⊥) × (votesReading votes key .answer ≡ Refused (BadVote n) → ⊥)
+votes-taken votes zs key w n =
+    let e = votes-best votes zs key w .0 in
+    let h = parsed-neither (decodedFrom votes) key in
+    (λ q. h .six n (sym (ap (λ (r : Reading). r .answer) e) ∙ q), λ q. h .fifteen n (sym (ap (λ (r : Reading). r .answer) e) ∙ q))
+
+-- a record laid over the blocks and damaged within e + 2 f <= 9 is read as that record is: as its text, or as its refusal
+-- where it carries none
+pub votes-correct : (xs : List ℕ) (key : Key) (fates : List Fate) (votes : List Float) → IsRecord xs → length votes ≡ blockCount
+    → zeroedCount fates + 2 * reversedCount fates ≤ 9 → Laid xs fates votes → votesReading votes key ≡ readAs (parsedOf short xs key)
+unfolding votesReading
+votes-correct xs key fates votes x many few laid =
+    ap readAs
+    (reads-on votes key many (laid-good xs fates votes many laid) ∙ ap (λ (bs : List ℕ). parsedOf short bs key) (corrects xs fates votes x few laid))

@@ -30,7 +30,7 @@ use Rattle.seq.specs.Bytes.{numberAt}
 use Rattle.record.specs.Answers.{readAs}
 use Rattle.record.specs.Laws.{sound-length}
 use Rattle.layout.specs.Layout.{blockCount}
-use Rattle.extract.specs.Extract.{goodVotes, votesOutcome, votesReading}
+use Rattle.extract.specs.Extract.{recordOutcome, parsedFrom, votesOutcome, votesReading}
 use Rattle.report.specs.Input.{voteFrom, noKey, bytesReading}
 use Rattle.report.specs.Line.{digit, decimalDigits, decimal, pairs, hex, lineRoom, lineAs, Lends}
 
@@ -132,9 +132,11 @@ parsed-short bs key =
 
 votes-short : (votes : List Float) (key : Key) → Short (votesOutcome votes key)
 unfolding votesOutcome
-votes-short votes key =
-    either (not (eqb (length votes) blockCount)) _ _ (none (BadLength (length votes)))
-    (either (ltb (goodVotes votes) blockCount) _ _ (none (BadVote (goodVotes votes))) (parsed-short _ key))
+votes-short votes key = go (recordOutcome votes)
+  where
+    go : (o : Outcome) → Short (parsedFrom o key)
+    go (refused r) = none r
+    go (gives bs) = parsed-short bs key
 
 pub bytes-fit : (bytes : List ℕ) → FitsLine (bytesReading bytes)
 unfolding bytesReading votesReading

@@ -27,7 +27,7 @@ use Rattle.refusal.specs.Laws.{first-done}
 use Rattle.carrier.specs.Carrier.{markedSamples, pictureVotes}
 use Rattle.layout.specs.Layout.{blockCount}
 use Rattle.extract.specs.Extract.{votesReading}
-use Rattle.extract.specs.Theorems.{all-good, reads-on}
+use Rattle.extract.specs.Laws.{all-good, reads-on}
 use Rattle.resilient.specs.Resilient.{writeAnswer, writtenOf, readingOf}
 use Rattle.resilient.specs.Sized.{admitted-sized}
 use Rattle.resilient.specs.Left.{written-done, written-refused, read-done}
