@@ -9,7 +9,7 @@ use lib.Dec.{T, eqb, leb, ltb, leb→le, ltb→lt, eqb→eq}
 use lib.IntN.{ℤ}
 use lib.Ieee.{Float, binary32, ofBits}
 use lib.ListN.{length}
-use Rattle.resample_window.specs.Window.{sized}
+use Rattle.resample_window.specs.Window.{isSide}
 use Rattle.resample_window.specs.declared.Window.{Window}
 use Rattle.resample_window.specs.declared.Weight.{Weight}
 use Rattle.resample_window.specs.declared.Weight.the-variants.{Of, Nothing}
@@ -32,7 +32,7 @@ weightValue (Of q) = q
 weightValue Nothing = ofBits binary32 0
 
 abbrev pub hasSides : ℕ → ℕ → ℕ → Bool
-hasSides width height channels = sized width && (sized height && (leb 3 channels && leb channels 4))
+hasSides width height channels = isSide width && (isSide height && (leb 3 channels && leb channels 4))
 
 -- of so many samples, so many pixels: a picture of one row
 abbrev pub hasLuma : ℕ → ℕ → ℕ → Bool
@@ -62,13 +62,13 @@ both true y e = (refl, e)
 both false y e = absurd (false≢true e)
 
 module _ (width height channels : ℕ) (e : hasSides width height channels ≡ true) where
-  sides : (sized width ≡ true) × (sized height && (leb 3 channels && leb channels 4) ≡ true)
-  sides = both (sized width) (sized height && (leb 3 channels && leb channels 4)) e
+  sides : (isSide width ≡ true) × (isSide height && (leb 3 channels && leb channels 4) ≡ true)
+  sides = both (isSide width) (isSide height && (leb 3 channels && leb channels 4)) e
 
-  height-channels : (sized height ≡ true) × (leb 3 channels && leb channels 4 ≡ true)
-  height-channels = both (sized height) (leb 3 channels && leb channels 4) (sides .1)
+  height-channels : (isSide height ≡ true) × (leb 3 channels && leb channels 4 ≡ true)
+  height-channels = both (isSide height) (leb 3 channels && leb channels 4) (sides .1)
 
-  side : (n : ℕ) → sized n ≡ true → (0 < n) × (n ≤ 8192)
+  side : (n : ℕ) → isSide n ≡ true → (0 < n) × (n ≤ 8192)
   side n f = let g = both (ltb 0 n) (leb n 8192) f in (ltb→lt 0 n (subst T (sym (g .0)) tt), leb→le n 8192 (subst T (sym (g .1)) tt))
 
   wide : (0 < width) × (width ≤ 8192)

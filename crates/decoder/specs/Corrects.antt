@@ -13,7 +13,7 @@ use lib.IntN.{ℤ, pos, negsuc, negℤ, natAbs, _+ℤ_, +ℤ-assoc, +ℤ-comm, +
 use lib.Signed.{_≤ℤ_, leZ-yes}
 use lib.Ieee.{Float, fin, binary32, prec}
 use Rattle.seq.specs.Sum.{sumTo, sum-same}
-use Rattle.float_laws.specs.Exact.{Is}
+use Rattle.float_laws.specs.Values.{Is}
 use Rattle.seq.specs.Tab.{tab, length-tab, getD-tab}
 use Rattle.decoder.specs.Order.{≤ℤ-trans, ≤ℤ-add}
 use Rattle.decoder.specs.Decoder.{voted, floats, decoded}

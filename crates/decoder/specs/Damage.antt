@@ -6,7 +6,7 @@ use Prim.Native.Nat.{ℕ, zero, suc, _+_}
 use lib.Dec.{eqb}
 use lib.IntN.{ℤ, pos}
 use lib.Ieee.{Float, fin}
-use Rattle.float_laws.specs.Exact.{Is}
+use Rattle.float_laws.specs.Values.{Is}
 use Rattle.decoder.specs.Decoder.{pick}
 
 -- the floats xs denote the whole numbers zs of 1 / c

@@ -10,7 +10,8 @@ use lib.IntN.{ℤ, pos, negℤ, natAbs, _+ℤ_, +ℤ-assoc, +ℤ-comm, negℤ-+�
 use lib.Ieee.{Float, nan, fin, binary32, prec, low}
 use Rattle.seq.specs.Sum.{sumTo}
 use Rattle.layout.specs.Places.{gather, gather-length, gatherF}
-use Rattle.float_laws.specs.Exact.{Is, is-add}
+use Rattle.float_laws.specs.Values.{Is}
+use Rattle.float_laws.specs.Exact.{is-add}
 use Rattle.decoder.specs.Order.{size-add}
 use Rattle.decoder.specs.Decoder.{voted}
 use Rattle.decoder.specs.Best.{score}

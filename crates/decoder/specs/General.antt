@@ -12,7 +12,7 @@ use lib.ListN.{length, getD, replicate, length-replicate}
 use lib.IntN.{ℤ, pos, natAbs}
 use lib.Signed.{_≤ℤ_}
 use lib.Ieee.{Float, nan, fin, binary32, prec, low, add}
-use Rattle.float_laws.specs.Exact.{Is}
+use Rattle.float_laws.specs.Values.{Is}
 use Rattle.decoder.specs.Decoder.{floats, decoded, strength}
 use Rattle.encoder.specs.Ccsds131.{code, bitsOf, sixZeros, encodeOf}
 use Rattle.encoder.specs.Bits.{bitsOf-length, bitsOf-bits, six-bits}

@@ -7,7 +7,7 @@ use lib.Ieee.{binary32, add, mul, neg, ofBits}
 use Rattle.seq.specs.Sum.{sumTo, sum-none, sum-more}
 use Rattle.float.specs.Base.{zero-}
 use Rattle.dct.specs.Grid.{cell}
-use Rattle.dct.specs.Product.{dotOf}
+use Rattle.dct.specs.Dct.{dotOf}
 use Rattle.dct.proofs.dot.Statement.{statement}
 use Rattle.dct.proofs.dot.Tie as tie
 
