@@ -18,19 +18,22 @@ use lib.Ieee.Scale.{finite}
 use Rattle.seq.specs.Table.{every, at}
 use Rattle.seq.specs.Lists.{sumTo}
 use Rattle.float.specs.Base.{zero-, two-to}
-use Rattle.float_laws.specs.Bounds.{Within, Holds, holds-whole, within-more, within-finite, add-within, sub-within, mul-within, div-within, roundAway-within, sum-to-within}
+use Rattle.float_laws.specs.Values.{Within, Holds}
+use Rattle.float_laws.specs.Bounds.{holds-whole, within-more, within-finite, add-within, sub-within, mul-within, div-within, roundAway-within, sum-to-within}
 use Rattle.float_laws.specs.Shifted.{Room, holds-shifted, holds-power, room-shifted}
 use Rattle.float.specs.Calls.{roundAway}
 use Rattle.float_laws.specs.Vote.{term-within, mean-within}
-use Rattle.dct.specs.Grid.{cell, cell-grid}
-use Rattle.dct.specs.Matrix.{matrix, entry, turnedEntry}
-use Rattle.dct.specs.Dct.{sumOf, throughRows, throughColumns, forwardOf, inverseOf}
-use Rattle.block.specs.Plane.{lineAt, loadOf, line-fits}
-use Rattle.block.specs.Mark.{coefficients, step, halfOf, markedOf, markedBlock}
+use Rattle.dct.specs.Grid.{cell}
+use Rattle.dct.specs.Columns.{cell-grid}
+use Rattle.dct.specs.Matrix.{matrix, dctEntry, dctTurned}
+use Rattle.dct.specs.Dct.{sumOfEight, throughRows, throughColumns, forwardOf, inverseOf}
+use Rattle.block.specs.Plane.{lineAt, loadOf}
+use Rattle.block.specs.Stored.{line-fits}
+use Rattle.block.specs.Mark.{coefficients, latticeStep, halfOf, markedOf, markedBlock}
 use Rattle.block.specs.Soft.{termOf, meanOfFour, voteOf}
 
-abbrev pub Each : List Float → ℕ → Type 0
-Each x a = (r c : ℕ) → r < 8 → c < 8 → Within (cell x r c) a 1
+abbrev pub EachWithin : List Float → ℕ → Type 0
+EachWithin x a = (r c : ℕ) → r < 8 → c < 8 → Within (cell x r c) a 1
 
 -- ---- the matrix
 
@@ -56,18 +59,18 @@ eights : T (every (λ k row. eqb (length row) 8) 0 matrix)
 unfolding ofBits
 eights = tt
 
-entry-within : (k i : ℕ) → k < 8 → i < 8 → Within (entry k i) 1 2
+entry-within : (k i : ℕ) → k < 8 → i < 8 → Within (dctEntry k i) 1 2
 entry-within k i K I =
     let row = getD matrix k [] in
     let long : length row ≡ 8 = eqb→eq (length row) 8 (at (λ k row. eqb (length row) 8) matrix [] eights k K) in
-    half-within (entry k i) (at (λ i x. atMostHalf x) row nan (at halfRow matrix [] halves k K) i (omega arith))
+    half-within (dctEntry k i) (at (λ i x. atMostHalf x) row nan (at halfRow matrix [] halves k K) i (omega arith))
 
 -- ---- the passes
 
 -- a sum of eight products
-sum-within : (w v : ℕ → Float) (a : ℕ) → Room binary32 8 a 2 → ((j : ℕ) → j < 8 → Within (w j) 1 2) → ((j : ℕ) → j < 8 → Within (v j) a 1) → Within (sumOf (λ j. mul binary32 (w j) (v j))) (4 * a) 1
+sum-within : (w v : ℕ → Float) (a : ℕ) → Room binary32 8 a 2 → ((j : ℕ) → j < 8 → Within (w j) 1 2) → ((j : ℕ) → j < 8 → Within (v j) a 1) → Within (sumOfEight (λ j. mul binary32 (w j) (v j))) (4 * a) 1
 sum-within w v a A W X =
-    within-more (sumOf (λ j. mul binary32 (w j) (v j))) (0 + 8 * a) 2 (4 * a) 1 (zero-lt-suc 1)
+    within-more (sumOfEight (λ j. mul binary32 (w j) (v j))) (0 + 8 * a) 2 (4 * a) 1 (zero-lt-suc 1)
     (sum-to-within binary32 zero- (λ j. mul binary32 (w j) (v j)) 8 a 0 2 (zero-lt-suc 1) (λ i I. let e : i * a ≡ 0 + i * a = omega arith in subst (λ (z : ℕ). Holds binary32 z 2) e (A i I)) (le-refl 0) product)
     (omega arith)
   where
@@ -80,38 +83,38 @@ sum-within w v a A W X =
 abbrev Weights : (ℕ → ℕ → Float) → Type 0
 Weights w = (k j : ℕ) → k < 8 → j < 8 → Within (w k j) 1 2
 
-rows-within : (w : ℕ → ℕ → Float) (x : List Float) (a : ℕ) → Weights w → Room binary32 8 a 2 → Each x a → Each (throughRows w x) (4 * a)
+rows-within : (w : ℕ → ℕ → Float) (x : List Float) (a : ℕ) → Weights w → Room binary32 8 a 2 → EachWithin x a → EachWithin (throughRows w x) (4 * a)
 unfolding throughRows
 rows-within w x a W A X r k R K =
     subst (λ (z : Float). Within z (4 * a) 1) (sym (cell-grid _ r k R K)) (sum-within (w k) (cell x r) a A (λ j J. W k j K J) (λ j J. X r j R J))
 
-columns-within : (w : ℕ → ℕ → Float) (x : List Float) (a : ℕ) → Weights w → Room binary32 8 a 2 → Each x a → Each (throughColumns w x) (4 * a)
+columns-within : (w : ℕ → ℕ → Float) (x : List Float) (a : ℕ) → Weights w → Room binary32 8 a 2 → EachWithin x a → EachWithin (throughColumns w x) (4 * a)
 unfolding throughColumns
 columns-within w x a W A X k c K C =
     subst (λ (z : Float). Within z (4 * a) 1) (sym (cell-grid _ k c K C)) (sum-within (w k) (λ j. cell x j c) a A (λ j J. W k j K J) (λ j J. X j c J C))
 
-pub each-more : (x : List Float) (a b : ℕ) → a ≤ b → Each x a → Each x b
+pub each-more : (x : List Float) (a b : ℕ) → a ≤ b → EachWithin x a → EachWithin x b
 each-more x a b h X r c R C = within-more (cell x r c) a 1 b 1 (zero-lt-suc 0) (X r c R C) (omega arith)
 
-turned-within : Weights turnedEntry
+turned-within : Weights dctTurned
 turned-within i k I K = entry-within k i K I
 
-module _ (x : List Float) (n k : ℕ) (N : 32 * n ≤ 2 ^ 24) (K : k ≤ 100) (X : Each x (n * 2 ^ k)) where
+module _ (x : List Float) (n k : ℕ) (N : 32 * n ≤ 2 ^ 24) (K : k ≤ 100) (X : EachWithin x (n * 2 ^ k)) where
   first : Room binary32 8 (n * 2 ^ k) 2
   first = room-shifted binary32 8 n k 1 (lit≤ tt) (omega arith) (omega arith)
 
   second : Room binary32 8 (4 * (n * 2 ^ k)) 2
   second = subst (λ (a : ℕ). Room binary32 8 a 2) (mul-assoc 4 n (2 ^ k)) (room-shifted binary32 8 (4 * n) k 1 (lit≤ tt) (omega arith) (omega arith))
 
-  pub forward-within : Each (forwardOf x) (16 * (n * 2 ^ k))
+  pub forward-within : EachWithin (forwardOf x) (16 * (n * 2 ^ k))
   forward-within =
       each-more (forwardOf x) (4 * (4 * (n * 2 ^ k))) (16 * (n * 2 ^ k)) (omega arith)
-      (columns-within entry (throughRows entry x) (4 * (n * 2 ^ k)) entry-within second (rows-within entry x (n * 2 ^ k) entry-within first X))
+      (columns-within dctEntry (throughRows dctEntry x) (4 * (n * 2 ^ k)) entry-within second (rows-within dctEntry x (n * 2 ^ k) entry-within first X))
 
-  pub inverse-within : Each (inverseOf x) (16 * (n * 2 ^ k))
+  pub inverse-within : EachWithin (inverseOf x) (16 * (n * 2 ^ k))
   inverse-within =
       each-more (inverseOf x) (4 * (4 * (n * 2 ^ k))) (16 * (n * 2 ^ k)) (omega arith)
-      (rows-within turnedEntry (throughColumns turnedEntry x) (4 * (n * 2 ^ k)) turned-within second (columns-within turnedEntry x (n * 2 ^ k) turned-within first X))
+      (rows-within dctTurned (throughColumns dctTurned x) (4 * (n * 2 ^ k)) turned-within second (columns-within dctTurned x (n * 2 ^ k) turned-within first X))
 
 -- ---- the vote
 
@@ -119,11 +122,11 @@ abbrev pub Dither : List Float → Type 0
 Dither u = (k : ℕ) → k < 4 → Within (getD u k nan) 1 1
 
 -- v / 16
-scaled-within : (v : Float) (n : ℕ) → n ≤ 2 ^ 24 → Within v (16 * n) 1 → Within (div binary32 v step) n 1
+scaled-within : (v : Float) (n : ℕ) → n ≤ 2 ^ 24 → Within v (16 * n) 1 → Within (div binary32 v latticeStep) n 1
 scaled-within v n N h =
     let e : n * 16 ≡ 16 * n * 1 = omega arith in
-    within-more (div binary32 v step) (16 * n * 1) (1 * 16) n 1 (zero-lt-suc 15)
-    (div-within binary32 v step false (16 * n) 1 16 1 (zero-lt-suc 0) (zero-lt-suc 15) (zero-lt-suc 0) (subst (λ (z : ℕ). Holds binary32 z 16) e (holds-shifted binary32 n 4 4 (lit≤ tt) (lit≤ tt) N)) h (refl, refl))
+    within-more (div binary32 v latticeStep) (16 * n * 1) (1 * 16) n 1 (zero-lt-suc 15)
+    (div-within binary32 v latticeStep false (16 * n) 1 16 1 (zero-lt-suc 0) (zero-lt-suc 15) (zero-lt-suc 0) (subst (λ (z : ℕ). Holds binary32 z 16) e (holds-shifted binary32 n 4 4 (lit≤ tt) (lit≤ tt) N)) h (refl, refl))
     (omega arith)
 
 -- one more, or one less, that is at most 1 in size
@@ -136,23 +139,23 @@ less x y n N h k = sub-within binary32 x y n 1 1 (zero-lt-suc 0) (holds-whole bi
 pub term-of-within : (v u : Float) (n : ℕ) → n + 1 ≤ 2 ^ 24 → Within v (16 * n) 1 → Within u 1 1 → Within (termOf v u) 1 1
 unfolding termOf
 term-of-within v u n N h k =
-    let q = div binary32 v step in
+    let q = div binary32 v latticeStep in
     let w : Within (sub binary32 q u) (n + 1) 1 = less q u n N (scaled-within v n (omega arith) h) k in
     term-within binary32 (sub binary32 q u) (sub-fits binary32 q u) (within-finite (sub binary32 q u) (n + 1) 1 w)
 
-marked-cell : (x : List Float) (a k : ℕ) → Each x a → k < 4 → Within (getD x (getD coefficients k 0) nan) a 1
+marked-cell : (x : List Float) (a k : ℕ) → EachWithin x a → k < 4 → Within (getD x (getD coefficients k 0) nan) a 1
 marked-cell x a zero X h = X 1 1 (lit≤ tt) (lit≤ tt)
 marked-cell x a (suc zero) X h = X 1 2 (lit≤ tt) (lit≤ tt)
 marked-cell x a (suc (suc zero)) X h = X 2 1 (lit≤ tt) (lit≤ tt)
 marked-cell x a (suc (suc (suc zero))) X h = X 2 2 (lit≤ tt) (lit≤ tt)
 marked-cell x a (suc (suc (suc (suc k)))) X h = absurd (omega arith)
 
-pub vote-within : (u x : List Float) (n : ℕ) → n + 1 ≤ 2 ^ 24 → Dither u → Each x (16 * n) → Within (voteOf u x) 1 1
+pub vote-within : (u x : List Float) (n : ℕ) → n + 1 ≤ 2 ^ 24 → Dither u → EachWithin x (16 * n) → Within (voteOf u x) 1 1
 unfolding voteOf meanOfFour
 vote-within u x n N U X = mean-within binary32 _ (λ k K. term-of-within (getD x (getD coefficients k 0) nan) (getD u k nan) n N (marked-cell x (16 * n) k X K) (U k K))
 
 -- the vote of a block of samples
-pub block-vote-within : (u x : List Float) (n k : ℕ) → 32 * n ≤ 2 ^ 24 → k ≤ 100 → n * 2 ^ k + 1 ≤ 2 ^ 24 → Dither u → Each x (n * 2 ^ k) → Within (voteOf u (forwardOf x)) 1 1
+pub block-vote-within : (u x : List Float) (n k : ℕ) → 32 * n ≤ 2 ^ 24 → k ≤ 100 → n * 2 ^ k + 1 ≤ 2 ^ 24 → Dither u → EachWithin x (n * 2 ^ k) → Within (voteOf u (forwardOf x)) 1 1
 block-vote-within u x n k N K M U X = vote-within u (forwardOf x) (n * 2 ^ k) M U (forward-within x n k N K X)
 
 -- ---- where a coefficient is not finite, its term and the vote are no number
@@ -189,7 +192,7 @@ vote-none u x k K e = ap (λ (z : Float). div binary32 z (two-to 2)) (sum-none (
 pub marked-within : (v u h : Float) (n : ℕ) → n + 4 ≤ 2 ^ 24 → Within v (16 * n) 1 → Within u 1 1 → Within h 1 1 → Within (markedOf v u h) (16 * (n + 4)) 1
 unfolding markedOf
 marked-within v u h n N A U H =
-    let q = div binary32 v step in
+    let q = div binary32 v latticeStep in
     let d = sub binary32 q u in
     let m = roundAway binary32 (sub binary32 d h) in
     let s = add binary32 m u in
@@ -197,8 +200,8 @@ marked-within v u h n N A U H =
     let Q : Within q n 1 = scaled-within v n (omega arith) A in
     let M : Within m (n + 1 + 1) 1 = roundAway-within binary32 (sub binary32 d h) (n + 1 + 1) (holds-whole binary32 (n + 1 + 1) (omega arith)) (less d h (n + 1) (omega arith) (less q u n (omega arith) Q U) H) in
     let E : Within t (n + 1 + 1 + 1 + 1) 1 = more s h (n + 1 + 1 + 1) (omega arith) (more m u (n + 1 + 1) (omega arith) M U) H in
-    within-more (mul binary32 t step) ((n + 1 + 1 + 1 + 1) * 16) (1 * 1) (16 * (n + 4)) 1 (zero-lt-suc 0)
-    (mul-within binary32 t step (n + 1 + 1 + 1 + 1) 1 16 1 (zero-lt-suc 0) (zero-lt-suc 0) (holds-power binary32 (n + 1 + 1 + 1 + 1) 4 (lit≤ tt) (omega arith)) E (lit≤ tt))
+    within-more (mul binary32 t latticeStep) ((n + 1 + 1 + 1 + 1) * 16) (1 * 1) (16 * (n + 4)) 1 (zero-lt-suc 0)
+    (mul-within binary32 t latticeStep (n + 1 + 1 + 1 + 1) 1 16 1 (zero-lt-suc 0) (zero-lt-suc 0) (holds-power binary32 (n + 1 + 1 + 1 + 1) 4 (lit≤ tt) (omega arith)) E (lit≤ tt))
     (omega arith)
 
 -- a store of a value within the bound keeps it, and any other place holds what it held
@@ -209,7 +212,7 @@ set-within (y ∷ ys) zero (suc q) v a h k = k
 set-within (y ∷ ys) (suc p) zero v a h k = k
 set-within (y ∷ ys) (suc p) (suc q) v a h k = set-within ys p q v a h k
 
-each-set : (x : List Float) (p : ℕ) (v : Float) (a : ℕ) → Within v a 1 → Each x a → Each (set x p v) a
+each-set : (x : List Float) (p : ℕ) (v : Float) (a : ℕ) → Within v a 1 → EachWithin x a → EachWithin (set x p v) a
 each-set x p v a h X r c R C = set-within x p (r * 8 + c) v a h (X r c R C)
 
 beside : (x : List Float) (p q : ℕ) (v : Float) (a : ℕ) → (q ≡ p → ⊥) → Within (getD x q nan) a 1 → Within (getD (set x p v) q nan) a 1
@@ -221,7 +224,7 @@ half-of-within zero h = lit≤ tt
 half-of-within (suc zero) h = lit≤ tt
 half-of-within (suc (suc b)) h = absurd (omega arith)
 
-pub mark-within : (u x : List Float) (bit n : ℕ) → bit ≤ 1 → n + 4 ≤ 2 ^ 24 → Dither u → Each x (16 * n) → Each (markedBlock u bit x) (16 * (n + 4))
+pub mark-within : (u x : List Float) (bit n : ℕ) → bit ≤ 1 → n + 4 ≤ 2 ^ 24 → Dither u → EachWithin x (16 * n) → EachWithin (markedBlock u bit x) (16 * (n + 4))
 unfolding markedBlock
 mark-within u x bit n B N U X =
     each-set x₃ 18 _ b (new (getD x₃ 18 nan) 3 (lit≤ tt) (beside x₂ 17 18 _ a (λ e. omega arith) (beside x₁ 10 18 _ a (λ e. omega arith) (beside x 9 18 _ a (λ e. omega arith) (X 2 2 (lit≤ tt) (lit≤ tt))))))
@@ -254,13 +257,13 @@ mark-within u x bit n B N U X =
 -- ---- a block that is transformed, marked and transformed back
 
 -- n * 2 ^ k with 4 more, as m * 2 ^ k is: m = 4 at k = 0, and m = 1 from k = 2 on
-module _ (u x : List Float) (bit n m k : ℕ) (B : bit ≤ 1) (N : 32 * (n + m) ≤ 2 ^ 24) (K : k ≤ 96) (M : 4 ≤ m * 2 ^ k) (L : n * 2 ^ k + 4 ≤ 2 ^ 24) (U : Dither u) (X : Each x (n * 2 ^ k)) where
-  pub embed-coefficients : Each (markedBlock u bit (forwardOf x)) (16 * ((n + m) * 2 ^ k))
+module _ (u x : List Float) (bit n m k : ℕ) (B : bit ≤ 1) (N : 32 * (n + m) ≤ 2 ^ 24) (K : k ≤ 96) (M : 4 ≤ m * 2 ^ k) (L : n * 2 ^ k + 4 ≤ 2 ^ 24) (U : Dither u) (X : EachWithin x (n * 2 ^ k)) where
+  pub embed-coefficients : EachWithin (markedBlock u bit (forwardOf x)) (16 * ((n + m) * 2 ^ k))
   embed-coefficients =
       each-more (markedBlock u bit (forwardOf x)) (16 * (n * 2 ^ k + 4)) (16 * ((n + m) * 2 ^ k)) (omega (arith, add-mul n m (2 ^ k)))
       (mark-within u (forwardOf x) bit (n * 2 ^ k) B L U (forward-within x n k (omega arith) (omega arith) X))
 
-  pub embed-within : Each (inverseOf (markedBlock u bit (forwardOf x))) (256 * ((n + m) * 2 ^ k))
+  pub embed-within : EachWithin (inverseOf (markedBlock u bit (forwardOf x))) (256 * ((n + m) * 2 ^ k))
   embed-within =
       let y = markedBlock u bit (forwardOf x) in
       let e : (n + m) * 2 ^ (k + 4) ≡ (n + m) * 2 ^ k * 16 = ap (λ (z : ℕ). (n + m) * z) (pow-add 2 k 4) ∙ sym (mul-assoc (n + m) (2 ^ k) 16) in
@@ -270,15 +273,15 @@ module _ (u x : List Float) (bit n m k : ℕ) (B : bit ≤ 1) (N : 32 * (n + m) 
 -- ---- a plane from 8-bit samples, whose values are at most 2 ^ 20 in size
 
 -- its blocks
-pub load-within : (d : List Float) (a b : ℕ) → b < 1024 → ((p : ℕ) → p < 65536 → Within (getD d p nan) a 1) → Each (loadOf d b) a
+pub load-within : (d : List Float) (a b : ℕ) → b < 1024 → ((p : ℕ) → p < 65536 → Within (getD d p nan) a 1) → EachWithin (loadOf d b) a
 unfolding loadOf
 load-within d a b B D r c R C = subst (λ (z : Float). Within z a 1) (sym (cell-grid (λ r c. getD d (lineAt b r + c) nan) r c R C)) (D (lineAt b r + c) (omega (arith, line-fits b r B R)))
 
-pub plane-vote-within : (x u : List Float) → Each x (2 ^ 20) → Dither u → Within (voteOf u (forwardOf x)) 1 1
+pub plane-vote-within : (x u : List Float) → EachWithin x (2 ^ 20) → Dither u → Within (voteOf u (forwardOf x)) 1 1
 plane-vote-within x u X U = block-vote-within u x 1 20 (lit≤ tt) (lit≤ tt) (lit≤ tt) U X
 
-module _ (u x : List Float) (bit : ℕ) (B : bit ≤ 1) (U : Dither u) (X : Each x (2 ^ 20)) where
-  embedded : Each (inverseOf (markedBlock u bit (forwardOf x))) (2 ^ 28 + 2 ^ 10)
+module _ (u x : List Float) (bit : ℕ) (B : bit ≤ 1) (U : Dither u) (X : EachWithin x (2 ^ 20)) where
+  embedded : EachWithin (inverseOf (markedBlock u bit (forwardOf x))) (2 ^ 28 + 2 ^ 10)
   embedded = embed-within u x bit (2 ^ 18) 1 2 B (lit≤ tt) (lit≤ tt) (lit≤ tt) (lit≤ tt) U X
 
   -- the change, marked minus plane

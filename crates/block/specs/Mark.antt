@@ -12,8 +12,8 @@ use Rattle.float.specs.Calls.{roundAway}
 abbrev pub coefficients : List ℕ
 coefficients = (1 * 8 + 1) ∷ (1 * 8 + 2) ∷ (2 * 8 + 1) ∷ (2 * 8 + 2) ∷ []
 
-abbrev pub step : Float
-step = two-to 4
+abbrev pub latticeStep : Float
+latticeStep = two-to 4
 
 -- half the bit
 unfoldable pub halfOf : ℕ → Float
@@ -24,8 +24,8 @@ halfOf bit = mul binary32 (ofInt binary32 (pos bit)) (fin false 1 (negsuc 0))
 unfoldable pub markedOf : Float → Float → Float → Float
 unfolding add sub mul div roundAway
 markedOf v u h =
-    let n = roundAway binary32 (sub binary32 (sub binary32 (div binary32 v step) u) h) in
-    mul binary32 (add binary32 (add binary32 n u) h) step
+    let n = roundAway binary32 (sub binary32 (sub binary32 (div binary32 v latticeStep) u) h) in
+    mul binary32 (add binary32 (add binary32 n u) h) latticeStep
 
 -- the places, each marked with the next number of u from u k on
 abbrev markedAt : Float → List Float → ℕ → List ℕ → List Float → List Float

@@ -6,16 +6,16 @@ use lib.ListN.{getD}
 use lib.Ieee.{Float, nan, binary32, add, sub, mul, div}
 use Rattle.seq.specs.Lists.{sumTo}
 use Rattle.float.specs.Base.{zero-, two-to}
-use Rattle.float.specs.Calls.{floor, least}
-use Rattle.block.specs.Mark.{coefficients, step}
+use Rattle.float.specs.Calls.{floor, smaller}
+use Rattle.block.specs.Mark.{coefficients, latticeStep}
 
 -- of a coefficient v with dither number u: x = v / 16 - u, r = x - floor x, 1 - 4 min(r, 1 - r)
 unfoldable pub termOf : Float → Float → Float
-unfolding sub mul div least floor
+unfolding sub mul div smaller floor
 termOf v u =
-    let x = sub binary32 (div binary32 v step) u in
+    let x = sub binary32 (div binary32 v latticeStep) u in
     let r = sub binary32 x (floor binary32 x) in
-    sub binary32 (two-to 0) (mul binary32 (two-to 2) (least r (sub binary32 (two-to 0) r)))
+    sub binary32 (two-to 0) (mul binary32 (two-to 2) (smaller r (sub binary32 (two-to 0) r)))
 
 -- (((-0 + t 0) + t 1) + t 2) + t 3, divided by 4
 unfoldable pub meanOfFour : (ℕ → Float) → Float

@@ -11,7 +11,7 @@ ghost use mathlib.Core.List.{[], _∷_};
 ghost use Prim.Native.Nat.{_≤_, _<_};
 ghost use lib.ListN.{length, getD};
 ghost use lib.Ieee.{nan};
-ghost use Rattle.dct.specs.Grid.{cell, lineOf};
+ghost use Rattle.dct.specs.Grid.{cell, blockLine};
 ghost use Rattle.block.specs.Mark.{markedOf, markedBlock};
 ghost use Rattle.block.specs.Soft.{termOf, meanOfFour, voteOf};
 ghost use Rattle.block.specs.Plane.{lineAt, loadOf, storedOf};
@@ -85,7 +85,7 @@ pub fn load_block(plane: &[f32], b: usize) -> [f32; 64]
 
 fn block_line(values: &[f32; 64], r: usize) -> [f32; 8]
     requires { ⌜ r < 8 ⌝ }
-    ensures { λ l. ⌜ l ≡ lineOf (cell (now (values .entry))) r ⌝ }
+    ensures { λ l. ⌜ l ≡ blockLine (cell (now (values .entry))) r ⌝ }
 {
     let mut line = [0.0f32; 8];
     for c in 0..8usize {

@@ -7,7 +7,7 @@ use native.Mathlib.Nat.{mul-le-mul-right}
 use native.Mathlib.Omega.{arith}
 use lib.Dec.{T, eqb, leb, ltb, leb→le, ltb→lt, eqb→eq}
 use lib.ListN.{length}
-use Rattle.resample_window.specs.Window.{sized}
+use Rattle.resample_window.specs.Window.{isSide}
 use Rattle.resample.specs.Samples.{Sized}
 use Rattle.comparison.specs.Stages.{hasSides, hasLuma, hasPlane, hasChange}
 
@@ -18,13 +18,13 @@ both true y e = (refl, e)
 both false y e = absurd (false≢true e)
 
 module _ (width height channels : ℕ) (e : hasSides width height channels ≡ true) where
-  sides : (sized width ≡ true) × (sized height && (leb 3 channels && leb channels 4) ≡ true)
-  sides = both (sized width) (sized height && (leb 3 channels && leb channels 4)) e
+  sides : (isSide width ≡ true) × (isSide height && (leb 3 channels && leb channels 4) ≡ true)
+  sides = both (isSide width) (isSide height && (leb 3 channels && leb channels 4)) e
 
-  height-channels : (sized height ≡ true) × (leb 3 channels && leb channels 4 ≡ true)
-  height-channels = both (sized height) (leb 3 channels && leb channels 4) (sides .1)
+  height-channels : (isSide height ≡ true) × (leb 3 channels && leb channels 4 ≡ true)
+  height-channels = both (isSide height) (leb 3 channels && leb channels 4) (sides .1)
 
-  side : (n : ℕ) → sized n ≡ true → (0 < n) × (n ≤ 8192)
+  side : (n : ℕ) → isSide n ≡ true → (0 < n) × (n ≤ 8192)
   side n f = let g = both (ltb 0 n) (leb n 8192) f in (ltb→lt 0 n (subst T (sym (g .0)) tt), leb→le n 8192 (subst T (sym (g .1)) tt))
 
   wide : (0 < width) × (width ≤ 8192)
@@ -61,8 +61,8 @@ module _ (width height channels : ℕ) (samples : List ℕ) (plane : ℕ) (e : h
   pub plane-sized : Sized width height channels samples
   plane-sized = is-sized width height channels (both (hasSides width height channels) _ e .0) samples (eqb→eq (length samples) (width * channels * height) (subst T (sym (lengths .1)) tt))
 
-  pub plane-length : plane ≡ 65536
-  plane-length = eqb→eq plane 65536 (subst T (sym (lengths .0)) tt)
+  pub plane-values : plane ≡ 65536
+  plane-values = eqb→eq plane 65536 (subst T (sym (lengths .0)) tt)
 
 module _ (width height channels change : ℕ) (samples : List ℕ) (e : hasChange width height channels change (length samples) ≡ true) where
   no-narrower : (leb 256 width ≡ true) × (leb 256 height && hasPlane width height channels (length samples) change ≡ true)
@@ -74,4 +74,4 @@ module _ (width height channels change : ℕ) (samples : List ℕ) (e : hasChang
   pub change-fits : Sized width height channels samples × (256 ≤ width) × (256 ≤ height) × (change ≡ 65536)
   change-fits =
       let picture = no-lower .1 in
-      (plane-sized width height channels samples change picture, leb→le 256 width (subst T (sym (no-narrower .0)) tt), leb→le 256 height (subst T (sym (no-lower .0)) tt), plane-length width height channels samples change picture)
+      (plane-sized width height channels samples change picture, leb→le 256 width (subst T (sym (no-narrower .0)) tt), leb→le 256 height (subst T (sym (no-lower .0)) tt), plane-values width height channels samples change picture)

@@ -8,7 +8,7 @@ use lib.IntN.{ℤ}
 use lib.Ieee.{Float, binary32, ofBits}
 use lib.ListN.{length}
 use Rattle.seq.specs.Lists.{tab}
-use Rattle.resample_window.specs.Window.{sized}
+use Rattle.resample_window.specs.Window.{isSide}
 use Rattle.resample_window.specs.declared.Window.{Window}
 use Rattle.resample_window.specs.declared.Weight.{Weight}
 use Rattle.resample_window.specs.declared.Weight.the-variants.{Of, Nothing}
@@ -30,7 +30,7 @@ weightValue (Of q) = q
 weightValue Nothing = ofBits binary32 0
 
 abbrev pub hasSides : ℕ → ℕ → ℕ → Bool
-hasSides width height channels = sized width && (sized height && (leb 3 channels && leb channels 4))
+hasSides width height channels = isSide width && (isSide height && (leb 3 channels && leb channels 4))
 
 -- of so many samples, so many pixels: a picture of one row
 abbrev pub hasLuma : ℕ → ℕ → ℕ → Bool

@@ -2,7 +2,7 @@
 ghost use mathlib.Core.Path.{_≡_};
 ghost use Prim.Native.Nat.{_%_, _<_};
 ghost use Rattle.dct.specs.Grid.{grid};
-ghost use Rattle.dct.specs.Matrix.{entry, turnedEntry};
+ghost use Rattle.dct.specs.Matrix.{dctEntry, dctTurned};
 ghost use Rattle.dct.specs.Dct.{forwardOf, inverseOf};
 ghost use Rattle.block.specs.Mark.{markedBlock};
 ghost use Rattle.block.specs.Soft.{voteOf};
@@ -56,7 +56,7 @@ pub extern "C" fn vk_store_block(plane: &mut [f32; 65536], b: u16, values: &[f32
 }
 
 fn block_there_and_back(plane: &mut [f32; 65536], b: usize, matrix: &[f32; 64], turned: &[f32; 64])
-    requires { ⌜ (b < 1024) × (now matrix ≡ grid entry) × (now turned ≡ grid turnedEntry) ⌝ }
+    requires { ⌜ (b < 1024) × (now matrix ≡ grid dctEntry) × (now turned ≡ grid dctTurned) ⌝ }
     ensures { λ _. ⌜ now (plane .exit) ≡ blockThereAndBack (now (plane .entry)) b ⌝ }
 {
     let mut values = block::load_block(plane, b);

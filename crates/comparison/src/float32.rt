@@ -1,7 +1,7 @@
 // Crate `float`, the calls on `f32`.
 ghost use mathlib.Core.Path.{_≡_};
 ghost use lib.Ieee.{binary32, ofBits};
-ghost use Rattle.float.specs.Calls.{floor, roundAway, roundedByte, least, inUnit};
+ghost use Rattle.float.specs.Calls.{floor, roundAway, roundedByte, smaller, inUnit};
 ghost use Rattle.comparison.specs.Bulk.{roundedInto};
 
 #[no_mangle]
@@ -20,7 +20,7 @@ pub extern "C" fn vk_floor_f32(x: f32) -> f32
 
 #[no_mangle]
 pub extern "C" fn vk_min_f32(a: f32, b: f32) -> f32
-    ensures { λ r. ⌜ r ≡ least a b ⌝ }
+    ensures { λ r. ⌜ r ≡ smaller a b ⌝ }
 {
     float::min_f32(a, b)
 }

@@ -1,7 +1,7 @@
 // Crate `float`, the calls on `f64`.
 ghost use mathlib.Core.Path.{_≡_};
 ghost use lib.Ieee.{binary64, toSigned};
-ghost use Rattle.float.specs.Calls.{floor, ceil, narrow, absolute, most};
+ghost use Rattle.float.specs.Calls.{floor, ceil, narrow, absolute, larger};
 
 #[no_mangle]
 pub extern "C" fn vk_floor_f64_to_i64(x: f64) -> i64
@@ -19,7 +19,7 @@ pub extern "C" fn vk_ceil_f64_to_i64(x: f64) -> i64
 
 #[no_mangle]
 pub extern "C" fn vk_max_f64(a: f64, b: f64) -> f64
-    ensures { λ r. ⌜ r ≡ most a b ⌝ }
+    ensures { λ r. ⌜ r ≡ larger a b ⌝ }
 {
     float::max_f64(a, b)
 }

@@ -4,7 +4,7 @@ use resample_window::Window;
 ghost use mathlib.Core.Path.{_≡_};
 ghost use Prim.Native.Nat.{_*_};
 ghost use lib.ListN.{length};
-ghost use Rattle.resample_window.specs.Window.{sized, windowOf, weightOf};
+ghost use Rattle.resample_window.specs.Window.{isSide, windowOf, weightOf};
 ghost use Rattle.comparison.specs.Stages.{numbersOf, partsOf, hasWeight, weightValue, hasSides, hasLuma, lumaInto, hasPlane, planeInto, hasChange, changeInto};
 
 // The first and the last source number; centre, support and sum.
@@ -54,7 +54,7 @@ pub extern "C" fn vk_weight(src: usize, dst: usize, i: usize, j: i64, weight: &m
 }
 
 fn side(n: usize) -> bool
-    ensures { λ r. ⌜ r ≡ sized n ⌝ }
+    ensures { λ r. ⌜ r ≡ isSide n ⌝ }
 {
     if 0 < n { n <= 8192 } else { false }
 }

@@ -9,7 +9,7 @@ use mathlib.Core.Logic.{inl, inr}
 use lib.Signed.{_≤ℤ_}
 use lib.IntN.{ℤ, pos, negℤ, natAbs, _+ℤ_, +ℤ-idl, +ℤ-idr}
 use lib.Ieee.{Float, nan, binary32, low, prec}
-use Rattle.float_laws.specs.Exact.{Is}
+use Rattle.float_laws.specs.Values.{Is}
 use Rattle.seq.specs.Tab.{tab-same, getD-tab, length-tab}
 use Rattle.seq.specs.Lists.{tab}
 use Rattle.correction.specs.Demand3.{Votes, Fate, kept, votedF, zeroedCount, reversedCount, Bytes}

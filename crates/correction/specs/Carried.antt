@@ -10,8 +10,10 @@ use lib.ListN.{length, getD, getD-replicate}
 use lib.IntN.{ℤ, pos, negℤ, natAbs}
 use lib.Signed.{_≤ℤ_}
 use lib.Ieee.{Float, nan, inf, fin, binary32, prec, low, add, neg, lt}
-use Rattle.float_laws.specs.Exact.{Is, is-neg}
-use Rattle.float_laws.specs.Score.{Score, out, at, Scored, plus, ltS, Bounded, scored-add, scored-lt}
+use Rattle.float_laws.specs.Values.{Is}
+use Rattle.float_laws.specs.Exact.{is-neg}
+use Rattle.float_laws.specs.Score.{Score, out, at, Scored, plus, ltS, Bounded}
+use Rattle.float_laws.specs.Scoring.{scored-add, scored-lt}
 use Rattle.seq.specs.Tab.{getD-tab}
 use Rattle.encoder.specs.Ccsds131.{out1, out2, code, run, Bits}
 use Rattle.correction.specs.Order.{size-add, size-neg}

@@ -14,7 +14,7 @@ use lib.Signed.{_≤ℤ_, leZ-yes}
 use lib.Ieee.{Float, fin, binary32, prec}
 use Rattle.seq.specs.Sum.{sum-same}
 use Rattle.seq.specs.Lists.{sumTo, tab}
-use Rattle.float_laws.specs.Exact.{Is}
+use Rattle.float_laws.specs.Values.{Is}
 use Rattle.seq.specs.Tab.{length-tab, getD-tab}
 use Rattle.correction.specs.Order.{≤ℤ-trans, ≤ℤ-add}
 use Rattle.decoder.specs.Decoder.{voted, floats, decoded}

@@ -10,7 +10,7 @@ use lib.ListN.{length, getD}
 use lib.IntN.{ℤ, pos, negℤ, natAbs, _+ℤ_}
 use lib.Ieee.{Float, nan, fin}
 use Rattle.seq.specs.Lists.{sumTo}
-use Rattle.float_laws.specs.Exact.{Is}
+use Rattle.float_laws.specs.Values.{Is}
 use Rattle.encoder.specs.Ccsds131.{recordSize, codedBits, encodeOf}
 use Rattle.layout.specs.Layout.{blockCount}
 use Rattle.layout.specs.Places.{blockBits, gathered, sure}

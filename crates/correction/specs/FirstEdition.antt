@@ -13,7 +13,7 @@ use lib.Signed.{_≤ℤ_}
 use lib.Ieee.{Float, nan}
 use Rattle.seq.specs.Sum.{sum-same}
 use Rattle.seq.specs.Tab.{getD-tab}
-use Rattle.float_laws.specs.Exact.{Is}
+use Rattle.float_laws.specs.Values.{Is}
 use Rattle.layout.specs.Layout.{blockCount, blockOf, placeOf}
 use Rattle.layout.specs.Permutation.{layout-undo}
 use Rattle.layout.specs.Places.{blockBits, through, gathered}

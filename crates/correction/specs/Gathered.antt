@@ -11,7 +11,8 @@ use lib.Ieee.{Float, nan, fin, binary32, prec, low}
 use Rattle.seq.specs.Lists.{sumTo}
 use Rattle.layout.specs.Places.{gather, gatherF}
 use Rattle.layout.specs.Sums.{gather-length}
-use Rattle.float_laws.specs.Exact.{is-add, Is}
+use Rattle.float_laws.specs.Exact.{is-add}
+use Rattle.float_laws.specs.Values.{Is}
 use Rattle.correction.specs.Order.{size-add}
 use Rattle.decoder.specs.Decoder.{voted}
 use Rattle.correction.specs.Best.{score}

@@ -6,7 +6,7 @@ use Prim.Native.Nat.{ℕ, _+_, _*_, _≤_}
 use lib.IntN.{ℤ}
 use lib.Signed.{_≤ℤ_}
 use lib.Ieee.{Float}
-use Rattle.float_laws.specs.Exact.{Is}
+use Rattle.float_laws.specs.Values.{Is}
 use Rattle.encoder.specs.Ccsds131.{encodeOf}
 use Rattle.correction.specs.Demand3.{
   IsRecord,

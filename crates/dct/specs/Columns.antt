@@ -1,23 +1,33 @@
--- A block that is made column by column.
-use mathlib.Core.Path.{_≡_, refl, sym, _∙_, ap, ap₂}
-use mathlib.Core.Logic.{_⊎_, inl, inr}
+-- A block in one list, and one that is made column by column.
+use mathlib.Core.Path.{_≡_, _∙_, refl, sym, ap, ap₂}
 use mathlib.Core.List.{List}
-use Prim.Native.Nat.{ℕ, zero, suc, _+_, _*_, _/_, _%_, _≤_, _<_}
+use Prim.Native.Nat.{ℕ, _+_, _*_, _<_, zero, suc, _/_, _%_, _≤_}
+use lib.ListN.{length, getD, set, length-set}
+use lib.Ieee.{Float, nan}
+use Rattle.seq.specs.Tab.{tab-same, length-tab, getD-tab}
+use Rattle.seq.specs.Lists.{tab}
+use Rattle.seq.specs.Lines.{lines-same, length-lines, getD-lines}
+use mathlib.Core.Logic.{_⊎_, inl, inr}
 use native.Mathlib.Numerals.{add-one}
 use native.Mathlib.Nat.{eq-or-lt-of-le, div-add-mod'}
 use native.Mathlib.Omega.{arith}
 use lib.Arith.{digits-div, digits-mod}
-use lib.ListN.{length, getD, set, length-set}
 use lib.Seq.{getD-set-same, getD-set-other, ext-getD}
-use lib.Ieee.{Float, nan}
-use Rattle.seq.specs.Tab.{length-tab, getD-tab}
-use Rattle.seq.specs.Lists.{tab}
-use Rattle.dct.specs.Grid.{grid, cell, cell-grid, length-grid}
+use Rattle.dct.specs.Grid.{grid, cell, blockLine, column}
 
--- p with f 0, f 1, .. f (n - 1) down its column c
-unfoldable pub column : (ℕ → Float) → ℕ → ℕ → List Float → List Float
-column f c zero p = p
-column f c (suc n) p = set (column f c n p) (n * 8 + c) (f n)
+pub length-grid : (g : ℕ → ℕ → Float) → length (grid g) ≡ 64
+unfolding grid
+length-grid g = length-lines 8 (blockLine g) (λ r. length-tab (g r) 8) 8
+
+pub cell-grid : (g : ℕ → ℕ → Float) (r c : ℕ) → r < 8 → c < 8 → cell (grid g) r c ≡ g r c
+unfolding grid
+cell-grid g r c h k = getD-lines 8 (blockLine g) (λ r. length-tab (g r) 8) 8 r c nan h k ∙ getD-tab (g r) 8 c nan k
+
+pub grid-same : (f g : ℕ → ℕ → Float) → ((r c : ℕ) → r < 8 → c < 8 → f r c ≡ g r c) → grid f ≡ grid g
+unfolding grid
+grid-same f g h = lines-same (blockLine f) (blockLine g) 8 (λ r k. tab-same (f r) (g r) 8 (λ c l. h r c k l))
+
+-- ---- column by column
 
 module _ (f : ℕ → Float) (c : ℕ) (p : List Float) where
   pub column-none : p ≡ column f c 0 p

@@ -6,12 +6,9 @@ use lib.Ieee.{Float, binary32, add, mul}
 use Rattle.seq.specs.Sum.{sum-same}
 use Rattle.float.specs.Base.{zero-}
 use Rattle.float_laws.specs.Commute.{mul-commutes}
-use Rattle.dct.specs.Grid.{grid, cell, cell-grid, grid-same}
-use Rattle.dct.specs.Dct.{sumOf, throughRows, throughColumns}
-
--- line r of a times column c of b
-unfoldable pub dotOf : List Float → List Float → ℕ → ℕ → Float
-dotOf a b r c = sumOf (λ j. mul binary32 (cell a r j) (cell b j c))
+use Rattle.dct.specs.Grid.{grid, cell}
+use Rattle.dct.specs.Columns.{cell-grid, grid-same}
+use Rattle.dct.specs.Dct.{throughRows, throughColumns, dotOf}
 
 -- the weights stand in b with lines and columns exchanged, and in a as they are
 pub rows-by : (w : ℕ → ℕ → Float) (x b : List Float) → b ≡ grid (λ j k. w k j) → grid (dotOf x b) ≡ throughRows w x

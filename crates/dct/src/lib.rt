@@ -5,22 +5,20 @@ mod matrix;
 use matrix::MATRIX;
 ghost use mathlib.Core.Path.{_≡_};
 ghost use Prim.Native.Nat.{_<_};
-ghost use Rattle.dct.specs.Grid.{grid};
-ghost use Rattle.dct.specs.Matrix.{matrix, entry, turnedEntry};
-ghost use Rattle.dct.specs.Dct.{forwardOf, inverseOf};
-ghost use Rattle.dct.specs.Product.{dotOf};
-ghost use Rattle.dct.specs.Columns.{column};
+ghost use Rattle.dct.specs.Grid.{grid, column};
+ghost use Rattle.dct.specs.Matrix.{matrix, dctEntry, dctTurned};
+ghost use Rattle.dct.specs.Dct.{forwardOf, inverseOf, dotOf};
 
 fn entry_at(table: &[[f32; 8]; 8], k: usize, i: usize) -> f32
     requires { ⌜ (now table ≡ matrix) × (k < 8) × (i < 8) ⌝ }
-    ensures { λ x. ⌜ x ≡ entry k i ⌝ }
+    ensures { λ x. ⌜ x ≡ dctEntry k i ⌝ }
 {
     table[k][i]
 }
 
 // The matrix, line by line, for `forward` and `inverse`. Made once and lent: a constant is rebuilt at every use.
 pub fn dct_matrix() -> [f32; 64]
-    ensures { λ m. ⌜ m ≡ grid entry ⌝ }
+    ensures { λ m. ⌜ m ≡ grid dctEntry ⌝ }
 {
     let table = MATRIX;
     let mut m = [0.0f32; 64];
@@ -32,7 +30,7 @@ pub fn dct_matrix() -> [f32; 64]
 
 // The same with its lines and columns exchanged.
 pub fn dct_turned() -> [f32; 64]
-    ensures { λ m. ⌜ m ≡ grid turnedEntry ⌝ }
+    ensures { λ m. ⌜ m ≡ grid dctTurned ⌝ }
 {
     let matrix = dct_matrix();
     let mut m = [0.0f32; 64];
@@ -78,7 +76,7 @@ fn product(a: &[f32; 64], b: &[f32; 64]) -> [f32; 64]
 // The transform of a block: rows, then columns. Line k, column l is afterwards the vertical frequency k and the
 // horizontal one l. The inner product has no name, so that it is not copied.
 pub fn forward(block: &mut [f32; 64], matrix: &[f32; 64], turned: &[f32; 64])
-    requires { ⌜ (now matrix ≡ grid entry) × (now turned ≡ grid turnedEntry) ⌝ }
+    requires { ⌜ (now matrix ≡ grid dctEntry) × (now turned ≡ grid dctTurned) ⌝ }
     ensures { λ _. ⌜ now (block .exit) ≡ forwardOf (now (block .entry)) ⌝ }
 {
     *block = product(matrix, &product(block, turned));
@@ -86,7 +84,7 @@ pub fn forward(block: &mut [f32; 64], matrix: &[f32; 64], turned: &[f32; 64])
 
 // The way back: columns, then rows.
 pub fn inverse(block: &mut [f32; 64], matrix: &[f32; 64], turned: &[f32; 64])
-    requires { ⌜ (now matrix ≡ grid entry) × (now turned ≡ grid turnedEntry) ⌝ }
+    requires { ⌜ (now matrix ≡ grid dctEntry) × (now turned ≡ grid dctTurned) ⌝ }
     ensures { λ _. ⌜ now (block .exit) ≡ inverseOf (now (block .entry)) ⌝ }
 {
     *block = product(&product(turned, block), matrix);

@@ -1,1 +1,2 @@
 pub mod Dither
+pub mod Numbers

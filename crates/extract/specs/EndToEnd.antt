@@ -10,7 +10,8 @@ use Rattle.utf8.specs.Rfc3629.{wellFormed}
 use Rattle.record.specs.declared.Lock.{Lock}
 use Rattle.record.specs.Record.{short, Outcome, gives, recordOf, builtOf}
 use Rattle.record.specs.Answers.{readAs}
-use Rattle.record.specs.Theorems.{keyOf, short-apart, round-trip}
+use Rattle.record.specs.Theorems.{short-apart, round-trip}
+use Rattle.record.specs.Given.{openingKey}
 use Rattle.layout.specs.Layout.{blockCount}
 use Rattle.correction.specs.Demand3.{Bytes, IsRecord, Fate, zeroedCount, reversedCount, Laid}
 use Rattle.extract.specs.Extract.{votesReading}
@@ -29,9 +30,9 @@ written-record text lock bs four salt made =
 pub written-read : (text : List ℕ) (lock : Lock) (bs : List ℕ) (fates : List Fate) (votes : List Float)
     → length (lock .salt) ≡ 4 → Bytes (lock .salt) → wellFormed text ≡ true → builtOf short text lock ≡ gives bs
     → length votes ≡ blockCount → zeroedCount fates + 2 * reversedCount fates ≤ 9 → Laid bs fates votes
-    → votesReading votes (keyOf lock) ≡ readAs (gives text)
+    → votesReading votes (openingKey lock) ≡ readAs (gives text)
 written-read text lock bs fates votes four salt good made many few laid =
     let k = built-is text lock bs made in
     let back = round-trip short short-apart text lock four (k .0) good .1 in
-    votes-correct bs (keyOf lock) fates votes (written-record text lock bs four salt made) many few laid
+    votes-correct bs (openingKey lock) fates votes (written-record text lock bs four salt made) many few laid
     ∙ ap readAs (rw (k .2) at back)

@@ -7,7 +7,7 @@ use lib.ListN.{length, replicate}
 use lib.Ieee.{Float}
 use Rattle.float.specs.Calls.{inUnit}
 use Rattle.refusal.specs.declared.Refusal.the-variants.{BadLength, BadVote}
-use Rattle.record.specs.declared.Answer.the-variants.{Done, Refused}
+use Rattle.refusal.specs.declared.Answer.the-variants.{Done, Refused}
 use Rattle.record.specs.declared.Key.{Key}
 use Rattle.record.specs.declared.Reading.{Reading}
 use Rattle.record.specs.Record.{short, Outcome, refused, gives, parsedOf}

@@ -11,7 +11,8 @@ use lib.ListN.{length, getD}
 use lib.Ieee.{Float, nan}
 use borrow.Author.Tests.{eq-eqb, le-ltb}
 use Rattle.float.specs.Calls.{inUnit}
-use Rattle.float_laws.specs.Exact.{abs-signed, Is}
+use Rattle.float_laws.specs.Exact.{abs-signed}
+use Rattle.float_laws.specs.Values.{Is}
 use Rattle.float_laws.specs.Bounds.{value-within}
 use Rattle.float_laws.specs.Unit.{within-unit}
 use Rattle.refusal.specs.declared.Refusal.{Refusal}
@@ -25,7 +26,7 @@ use Rattle.refusal.specs.declared.Refusal.the-variants.{
   Damaged,
   WrongPasswordOrDamaged,
 }
-use Rattle.record.specs.declared.Answer.the-variants.{Done, Refused}
+use Rattle.refusal.specs.declared.Answer.the-variants.{Done, Refused}
 use Rattle.record.specs.declared.Key.{Key}
 use Rattle.record.specs.Record.{short, saltAt, outerAt, size, Outcome, refused, gives, intact, covered, sound, textIn, insideOf, parsedOf}
 use Rattle.seq.specs.Bytes.{numberAt}

@@ -20,8 +20,7 @@ use Rattle.utf8.specs.Counted.{counted-char, counted}
 use Rattle.utf8.specs.Texts.{counted-is}
 use Rattle.refusal.specs.declared.Refusal.the-variants.{TextTooLong, TextNotUtf8}
 use Rattle.record.specs.declared.Lock.{Lock}
-use Rattle.record.specs.Record.{short, innerAt, outerAt, lengthAt, refused, gives, covered, headOf, laid, locked, recordOf, builtOf}
-use Rattle.resample_window.specs.Window.{summed}
+use Rattle.record.specs.Record.{short, innerAt, outerAt, lengthAt, refused, gives, covered, headOf, laidOut, locked, recordOf, builtOf, withCrc}
 use Rattle.seq.specs.Bytes.{bigEndian}
 use Rattle.record.specs.Laws.{length-summed, length-laid, length-locked}
 use Rattle.correction.specs.Demand3.{Bytes, IsRecord}
@@ -107,8 +106,8 @@ word-bytes w (suc (suc zero)) = mod-lt _ (lit< tt)
 word-bytes w (suc (suc (suc zero))) = mod-lt _ (lit< tt)
 word-bytes w (suc (suc (suc (suc i)))) = lit< tt
 
-summed-bytes : (bs : List ℕ) → Bytes bs → Bytes (summed bs)
-unfolding summed
+summed-bytes : (bs : List ℕ) → Bytes bs → Bytes (withCrc bs)
+unfolding withCrc
 summed-bytes bs h = bytes-append bs (bigEndian (crcOf bs)) h (word-bytes (crcOf bs))
 
 module _ (lock : Lock) (four : length (lock .salt) ≡ 4) (salt : Bytes (lock .salt)) where
@@ -120,8 +119,8 @@ module _ (lock : Lock) (four : length (lock .salt) ≡ 4) (salt : Bytes (lock .s
       go true = bytes-one (short .keyed) (lock .salt) (lit< tt) salt
       go false = bytes-one (short .plain) (replicate 4 0) (lit< tt) (bytes-zeros 4)
 
-  laid-bytes : (text : List ℕ) → length text ≤ short .room → Bytes text → Bytes (laid short text lock)
-  unfolding laid
+  laid-bytes : (text : List ℕ) → length text ≤ short .room → Bytes text → Bytes (laidOut short text lock)
+  unfolding laidOut
   laid-bytes text fits h =
       let rest : List ℕ = replicate (short .room - length text) 0 in
       bytes-append (headOf short lock) (length text ∷ text ++ rest) head-bytes
@@ -145,12 +144,12 @@ module _ (lock : Lock) (four : length (lock .salt) ≡ 4) (salt : Bytes (lock .s
   pub is-record : (text : List ℕ) → length text ≤ short .room → counted text ≡ true → IsRecord (recordOf short text lock)
   unfolding recordOf
   is-record text fits good =
-      let inner = laid short text lock in
+      let inner = laidOut short text lock in
       let l : length inner ≡ innerAt short = length-laid short text lock four fits in
-      let s : length (summed inner) ≡ outerAt short = length-summed inner ∙ ap (λ (n : ℕ). n + 4) l in
+      let s : length (withCrc inner) ≡ outerAt short = length-summed inner ∙ ap (λ (n : ℕ). n + 4) l in
       record {
-        long = length-summed (locked short lock (summed inner)) ∙ ap (λ (n : ℕ). n + 4) (length-locked short lock (summed inner) (omega arith) ∙ s);
-        bytes = summed-bytes _ (locked-bytes (summed inner) (summed-bytes inner (laid-bytes text fits (counted-bytes text good))));
+        long = length-summed (locked short lock (withCrc inner)) ∙ ap (λ (n : ℕ). n + 4) (length-locked short lock (withCrc inner) (omega arith) ∙ s);
+        bytes = summed-bytes _ (locked-bytes (withCrc inner) (summed-bytes inner (laid-bytes text fits (counted-bytes text good))));
       }
 
 -- a text that is not refused fits, passes the check, and has its record

@@ -3,9 +3,9 @@
 // The definition is specs/Extract.antt; what may be relied on beyond it is specs/Theorems.antt and specs/EndToEnd.antt.
 use encoder::RECORD;
 use layout::BLOCKS;
-use record::Answer;
 use record::Key;
 use record::Reading;
+use refusal::Answer;
 use refusal::Refusal;
 ghost use mathlib.Core.Path.{_≡_};
 ghost use lib.ListN.{length};

@@ -16,10 +16,10 @@ use Rattle.float.specs.Rounding.{held, round-to, neg-round, exact-at}
 use Rattle.float.specs.Units.{inUnits, units-of}
 use Rattle.float.specs.Step.{on-and-off, minus-at-most, closest-le}
 use Rattle.float.specs.Calls.{floor, roundAway, halfAway, Under}
-use Rattle.float.specs.Whole.{next, not-below-zero, top-digit}
+use Rattle.float.specs.Whole.{next-multiple, not-below-zero, top-digit}
 use Rattle.float.specs.Nearest.{Half, closest-error}
 use Rattle.float.specs.Base.{zero+, two-to, minus-two-to, half}
-use Rattle.float.specs.Known.{yes, no}
+use Rattle.float.specs.Known.{known, known-not}
 
 -- ---- the tests that say so of a value or of its negation
 
@@ -115,18 +115,18 @@ not-none (suc q) c a h = omega arith
 under-near : (a c q : ℕ) → a < q * c → q * c * 2 ≤ a * 2 + c → a / c ≡ q - 1
 under-near a c q h k =
     let o : 1 ≤ q = not-none q c a h in
-    let e : (q - 1 + 1) * c ≡ (q - 1) * c + c = next (q - 1) c in
+    let e : (q - 1 + 1) * c ≡ (q - 1) * c + c = next-multiple (q - 1) c in
     let r : (q - 1 + 1) * c ≡ q * c = ap (λ (z : ℕ). z * c) (let z : q - 1 + 1 ≡ q = omega arith in z) in
     div-eq-of-lt-le c (omega arith) (omega arith)
 
 at-near : (a c q : ℕ) → 0 < c → q * c ≤ a → a * 2 ≤ q * c * 2 + c → a / c ≡ q
-at-near a c q C h k = let e = next q c in div-eq-of-lt-le c (omega arith) (omega arith)
+at-near a c q C h k = let e = next-multiple q c in div-eq-of-lt-le c (omega arith) (omega arith)
 
 over-near : (a c q : ℕ) → 0 < c → q * c < a → a * 2 ≤ q * c * 2 + c → (a + (c - 1)) / c ≡ q + 1
-over-near a c q C h k = let e = next q c in let e2 = next (q + 1) c in div-eq-of-lt-le c (omega arith) (omega arith)
+over-near a c q C h k = let e = next-multiple q c in let e2 = next-multiple (q + 1) c in div-eq-of-lt-le c (omega arith) (omega arith)
 
 up-near : (a c q : ℕ) → 0 < c → a ≤ q * c → q * c * 2 ≤ a * 2 + c → (a + (c - 1)) / c ≡ q
-up-near a c q C h k = let e = next q c in div-eq-of-lt-le c (omega arith) (omega arith)
+up-near a c q C h k = let e = next-multiple q c in div-eq-of-lt-le c (omega arith) (omega arith)
 
 module _ (f : Format) (m : ℕ) (e : ℤ) (t : T (fits f (fin false m e))) (h : Under (prec f - 1) (fin false m e)) where
   above : (b : Bool) → lt (fin false m e) (nearWhole f (fin false m e)) ≡ b → ltb (m * up e) (beside f m e t h .q * down e) ≡ b
@@ -147,7 +147,7 @@ floor-less f (inf s) t h p = absurd h
 floor-less f (fin true m e) t h p = absurd (true≢false (h .0))
 floor-less f (fin false m e) t h p =
     let r = beside f m e t h in
-    let l : m * up e < r .q * down e = ltb→lt (m * up e) (r .q * down e) (yes (above f m e t h true p)) in
+    let l : m * up e < r .q * down e = ltb→lt (m * up e) (r .q * down e) (known (above f m e t h true p)) in
     near-less f (fin false m e) (r .q) (not-none (r .q) (down e) (m * up e) l) (r .value) ∙ ap (λ (z : ℕ). round f false z 1) (sym (under-near (m * up e) (down e) (r .q) l (r .not-more)))
 
 pub floor-near : (f : Format) (y : Float) → T (fits f y) → Under (prec f - 1) y → lt y (nearWhole f y) ≡ false → nearWhole f y ≡ floor f y
@@ -157,7 +157,7 @@ floor-near f (inf s) t h p = absurd h
 floor-near f (fin true m e) t h p = absurd (true≢false (h .0))
 floor-near f (fin false m e) t h p =
     let r = beside f m e t h in
-    let l : r .q * down e ≤ m * up e = nltb→le (m * up e) (r .q * down e) (no (above f m e t h false p)) in
+    let l : r .q * down e ≤ m * up e = nltb→le (m * up e) (r .q * down e) (known-not (above f m e t h false p)) in
     near-is f (fin false m e) (r .q) (r .value) ∙ ap (λ (z : ℕ). round f false z 1) (sym (at-near (m * up e) (down e) (r .q) (down-pos e) l (r .not-less)))
 
 pub floor-neg-more : (f : Format) (y : Float) → T (fits f y) → Under (prec f - 1) y → lt (nearWhole f y) y ≡ true → neg (add f (nearWhole f y) (two-to 0)) ≡ floor f (neg y)
@@ -167,7 +167,7 @@ floor-neg-more f (inf s) t h p = absurd h
 floor-neg-more f (fin true m e) t h p = absurd (true≢false (h .0))
 floor-neg-more f (fin false m e) t h p =
     let r = beside f m e t h in
-    let l : r .q * down e < m * up e = ltb→lt (r .q * down e) (m * up e) (yes (beneath f m e t h true p)) in
+    let l : r .q * down e < m * up e = ltb→lt (r .q * down e) (m * up e) (known (beneath f m e t h true p)) in
     ap neg (near-more f (fin false m e) (r .q) (r .value))
     ∙ neg-round f false (r .q + 1) 1
     ∙ ap (λ (z : ℕ). round f true z 1) (sym (over-near (m * up e) (down e) (r .q) (down-pos e) l (r .not-less)))
@@ -179,7 +179,7 @@ floor-neg-near f (inf s) t h p = absurd h
 floor-neg-near f (fin true m e) t h p = absurd (true≢false (h .0))
 floor-neg-near f (fin false m e) t h p =
     let r = beside f m e t h in
-    let l : m * up e ≤ r .q * down e = nltb→le (r .q * down e) (m * up e) (no (beneath f m e t h false p)) in
+    let l : m * up e ≤ r .q * down e = nltb→le (r .q * down e) (m * up e) (known-not (beneath f m e t h false p)) in
     ap neg (near-is f (fin false m e) (r .q) (r .value))
     ∙ neg-round f false (r .q) 1
     ∙ ap (λ (z : ℕ). round f true z 1) (sym (up-near (m * up e) (down e) (r .q) (down-pos e) l (r .not-more)))
@@ -247,14 +247,14 @@ twice-one q c = add-mul (q * 2) 1 c ∙ ap (λ (z : ℕ). z + 1 * c) (mul-right-
 half-up : (a c q : ℕ) → 0 < c → (q * 2 + 1) * c ≤ a * 2 → a * 2 ≤ q * c * 2 + c → halfAway a c ≡ q + 1
 half-up a c q C h k =
     let d = twice-one q c in
-    let e : (q + 1) * (c * 2) ≡ q * c * 2 + c * 2 = next q (c * 2) ∙ ap (λ (z : ℕ). z + c * 2) (sym (mul-assoc q c 2)) in
-    let e2 : (q + 1 + 1) * (c * 2) ≡ (q + 1) * (c * 2) + c * 2 = next (q + 1) (c * 2) in
+    let e : (q + 1) * (c * 2) ≡ q * c * 2 + c * 2 = next-multiple q (c * 2) ∙ ap (λ (z : ℕ). z + c * 2) (sym (mul-assoc q c 2)) in
+    let e2 : (q + 1 + 1) * (c * 2) ≡ (q + 1) * (c * 2) + c * 2 = next-multiple (q + 1) (c * 2) in
     div-eq-of-lt-le (c * 2) (omega arith) (omega arith)
 
 half-stays : (a c q : ℕ) → 0 < c → a * 2 < (q * 2 + 1) * c → q * c * 2 ≤ a * 2 + c → halfAway a c ≡ q
 half-stays a c q C h k =
     let d = twice-one q c in
-    let e : (q + 1) * (c * 2) ≡ q * c * 2 + c * 2 = next q (c * 2) ∙ ap (λ (z : ℕ). z + c * 2) (sym (mul-assoc q c 2)) in
+    let e : (q + 1) * (c * 2) ≡ q * c * 2 + c * 2 = next-multiple q (c * 2) ∙ ap (λ (z : ℕ). z + c * 2) (sym (mul-assoc q c 2)) in
     let e2 : q * (c * 2) ≡ q * c * 2 = sym (mul-assoc q c 2) in
     div-eq-of-lt-le (c * 2) (omega arith) (omega arith)
 
@@ -265,7 +265,7 @@ half-more f (inf s) t h p = absurd h
 half-more f (fin true m e) t h p = absurd (true≢false (h .0))
 half-more f (fin false m e) t h p =
     let r = beside f m e t h in
-    let l = half-below f m e (r .q) (h .1) (r .top) (yes (ap (λ (z : Float). le z (fin false m e)) (sym (half-sum f (fin false m e) (r .q) (r .value))) ∙ p)) in
+    let l = half-below f m e (r .q) (h .1) (r .top) (known (ap (λ (z : Float). le z (fin false m e)) (sym (half-sum f (fin false m e) (r .q) (r .value))) ∙ p)) in
     near-more f (fin false m e) (r .q) (r .value) ∙ ap (λ (z : ℕ). round f false z 1) (sym (half-up (m * up e) (down e) (r .q) (down-pos e) l (r .not-less)))
 
 pub half-near : (f : Format) (y : Float) → T (fits f y) → Under (prec f - 1) y → le (add f (nearWhole f y) half) y ≡ false → nearWhole f y ≡ roundAway f y
@@ -275,5 +275,5 @@ half-near f (inf s) t h p = absurd h
 half-near f (fin true m e) t h p = absurd (true≢false (h .0))
 half-near f (fin false m e) t h p =
     let r = beside f m e t h in
-    let l = half-above f m e (r .q) (h .1) (r .top) (no (ap (λ (z : Float). le z (fin false m e)) (sym (half-sum f (fin false m e) (r .q) (r .value))) ∙ p)) in
+    let l = half-above f m e (r .q) (h .1) (r .top) (known-not (ap (λ (z : Float). le z (fin false m e)) (sym (half-sum f (fin false m e) (r .q) (r .value))) ∙ p)) in
     near-is f (fin false m e) (r .q) (r .value) ∙ ap (λ (z : ℕ). round f false z 1) (sym (half-stays (m * up e) (down e) (r .q) (down-pos e) l (r .not-more)))

@@ -13,7 +13,7 @@ use Rattle.float.specs.Calls.{roundAway, roundedByte, halfAway, clamped,
 use Rattle.float.specs.Whole.{half-rule, roundAway-value}
 use Rattle.float.specs.Integer.{value-byte, value-top}
 use Rattle.float.specs.Base.{zero+, natural}
-use Rattle.float.specs.Known.{yes, no}
+use Rattle.float.specs.Known.{known, known-not}
 
 data Range (x : Float) : Type 0 where
   low : T (not (lt zero+ x)) → clamped x ≡ zero+ → Range x
@@ -25,9 +25,9 @@ unfolding clamped lt
 range x = go (lt zero+ x) (lt x (natural 255)) refl refl
   where
     go : (p q : Bool) → lt zero+ x ≡ p → lt x (natural 255) ≡ q → Range x
-    go false q e g = low (no e) (ap (λ (b : Bool). cond (lt (cond b x zero+) (natural 255)) (cond b x zero+) (natural 255)) e)
-    go true true e g = mid (yes e) (yes g) (ap (λ (b : Bool). cond (lt (cond b x zero+) (natural 255)) (cond b x zero+) (natural 255)) e ∙ ap (λ (b : Bool). cond b x (natural 255)) g)
-    go true false e g = high (yes e) (no g) (ap (λ (b : Bool). cond (lt (cond b x zero+) (natural 255)) (cond b x zero+) (natural 255)) e ∙ ap (λ (b : Bool). cond b x (natural 255)) g)
+    go false q e g = low (known-not e) (ap (λ (b : Bool). cond (lt (cond b x zero+) (natural 255)) (cond b x zero+) (natural 255)) e)
+    go true true e g = mid (known e) (known g) (ap (λ (b : Bool). cond (lt (cond b x zero+) (natural 255)) (cond b x zero+) (natural 255)) e ∙ ap (λ (b : Bool). cond b x (natural 255)) g)
+    go true false e g = high (known e) (known-not g) (ap (λ (b : Bool). cond (lt (cond b x zero+) (natural 255)) (cond b x zero+) (natural 255)) e ∙ ap (λ (b : Bool). cond b x (natural 255)) g)
 
 -- ---- in the range a value is at most 255, and so is the whole number that it is rounded to
 

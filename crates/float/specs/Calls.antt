@@ -52,13 +52,13 @@ absolute (inf s) = inf false
 absolute (fin s m e) = fin false m e
 
 -- x.min(y) and x.max(y): the other one where one is a NaN. Rust leaves open which of two equal zeros is given; here it is x
-unfoldable pub least : Float → Float → Float
+unfoldable pub smaller : Float → Float → Float
 unfolding isNan lt
-least x y = cond (isNan x) y (cond (lt y x) y x)
+smaller x y = cond (isNan x) y (cond (lt y x) y x)
 
-unfoldable pub most : Float → Float → Float
+unfoldable pub larger : Float → Float → Float
 unfolding isNan lt
-most x y = cond (isNan x) y (cond (lt x y) y x)
+larger x y = cond (isNan x) y (cond (lt x y) y x)
 
 -- (-1.0..=1.0).contains(&x)
 unfoldable pub inUnit : Float → Bool

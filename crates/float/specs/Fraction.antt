@@ -164,9 +164,9 @@ add-across A B C a b c p q = add-mul A B c ∙ ap (λ (z : ℕ). z + B * c) p �
 
 -- ---- a sum sees only the fractions
 
-pub sum-same : (f : Format) (s : Bool) (A : ℕ) (t : Bool) (B C a b c : ℕ) → 0 < C → 0 < c → A * c ≡ a * C → B * c ≡ b * C → sum f s A t B C ≡ sum f s a t b c
+pub same-sum : (f : Format) (s : Bool) (A : ℕ) (t : Bool) (B C a b c : ℕ) → 0 < C → 0 < c → A * c ≡ a * C → B * c ≡ b * C → sum f s A t B C ≡ sum f s a t b c
 unfolding sum
-sum-same f s A t B C a b c D d p q =
+same-sum f s A t B C a b c D d p q =
     ap (λ (z : Float). cond (Bool·beq s t) z (cond (ltb A B) (round f t (B - A) C) (round f (s && ltb B A) (A - B) C))) (round-same f s (A + B) C (a + b) c D d (add-across A B C a b c p q))
     ∙ ap (λ (z : Float). cond (Bool·beq s t) (round f s (a + b) c) (cond (ltb A B) z (round f (s && ltb B A) (A - B) C))) (round-same f t (B - A) C (b - a) c D d (sub-across B A C b a c q p))
     ∙ ap (λ (z : Float). cond (Bool·beq s t) (round f s (a + b) c) (cond (ltb A B) (round f t (b - a) c) z)) (round-same f (s && ltb B A) (A - B) C (a - b) c D d (sub-across A B C a b c p q))
@@ -189,7 +189,7 @@ add-at f (fin u m e) (inf v) s t a b c C h k = absurd k
 add-at f (fin u m e) (fin v n d) s t a b c C h k =
     ap (λ (z : Bool). sum f z (m * up e * down d) v (n * up d * down e) (down e * down d)) (h .0)
     ∙ ap (λ (z : Bool). sum f s (m * up e * down d) z (n * up d * down e) (down e * down d)) (k .0)
-    ∙ sum-same f s (m * up e * down d) t (n * up d * down e) (down e * down d) a b c (mul-pos (down-pos e) (down-pos d)) C
+    ∙ same-sum f s (m * up e * down d) t (n * up d * down e) (down e * down d) a b c (mul-pos (down-pos e) (down-pos d)) C
     (left-of (m * up e) (down d) (down e) a c (h .1)) (right-of (n * up d) (down e) (down d) b c (k .1))
 
 -- ---- a negation, a difference, a product and a quotient

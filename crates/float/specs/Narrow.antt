@@ -24,7 +24,7 @@ use Rattle.float.specs.Units.{inUnits, units-of}
 use Rattle.float.specs.Step.{on-and-off, size-gt}
 use Rattle.float.specs.Calls.{narrow}
 use Rattle.float.specs.Base.{zero+, two-to}
-use Rattle.float.specs.Known.{yes, no}
+use Rattle.float.specs.Known.{known, known-not}
 
 pub narrow-neg : (x : Float) → narrow (neg x) ≡ neg (narrow x)
 unfolding narrow neg
@@ -219,13 +219,13 @@ in-range m g e h l E =
     let yv : HasValue (stepped x e) false (q * 2 ^ (925 + j)) U = on-and-off binary64 n (925 + j) (lt-of-lt-of-le nl (pow-mono (wider (925 + j)))) (far (925 + j) K) x (stepOf e) v mv in
     let cmp : lt (stepped x e) (two-to 128) ≡ ltb (q * 2 ^ (925 + j)) (2 ^ 1202) = lt-at (stepped x e) (two-to 128) false false (q * 2 ^ (925 + j)) (2 ^ 1202) U (pow-pos 1074) yv (refl, refl) in
     let is : lt (stepped x e) (two-to 128) ≡ true → stepped x e ≡ round binary32 false n U =
-    (λ t. is-narrow n j refl (stepped x e) (sub-fits binary64 (add binary64 x (stepOf e)) (stepOf e)) yv (ltb→lt (q * 2 ^ (925 + j)) (2 ^ 1202) (yes (sym cmp ∙ t)))) in
+    (λ t. is-narrow n j refl (stepped x e) (sub-fits binary64 (add binary64 x (stepOf e)) (stepOf e)) yv (ltb→lt (q * 2 ^ (925 + j)) (2 ^ 1202) (known (sym cmp ∙ t)))) in
     record {
       e-small = B;
       no-nan = subst (λ (z : Bool). T (not z)) (sym (nanBits-is binary64 ((e + 29) * 2 ^ 52))) (value-no-nan (stepOf e) false (2 ^ (52 + (925 + j))) U mv);
       under-fits = λ t. fits-and (stepped x e) (round binary32 false n U) (round-fits binary32 false n U) (value-no-nan (stepped x e) false (q * 2 ^ (925 + j)) U yv) (is t);
       under-is = λ t. is t ∙ sym (narrow-is m g h);
-      over-is = λ t. narrow-is m g h ∙ is-inf n j refl (nltb→le (q * 2 ^ (925 + j)) (2 ^ 1202) (no (sym cmp ∙ t)));
+      over-is = λ t. narrow-is m g h ∙ is-inf n j refl (nltb→le (q * 2 ^ (925 + j)) (2 ^ 1202) (known-not (sym cmp ∙ t)));
     }
 
 pub narrowed : (x : Float) (e : ℕ) → T (fits binary64 x) → T (lt zero+ x) → T (lt x (two-to 128)) → e ≡ max (toBits binary64 x / 2 ^ 52) 897 → Narrowed x e
@@ -263,11 +263,11 @@ zero-fits s e t = and-i (eqb (up e * down e) 1) true t tt
 
 pub narrow-zero : (x : Float) → T (fits binary64 x) → eq x zero+ ≡ true → T (fits binary32 x && not (isNan x)) × (x ≡ narrow x)
 unfolding eq
-narrow-zero nan t h = absurd (yes h)
-narrow-zero (inf s) t h = absurd (yes h)
+narrow-zero nan t h = absurd (known h)
+narrow-zero (inf s) t h = absurd (known h)
 narrow-zero (fin s zero e) t h = (zero-fits s e t, zero-narrow s e t)
 narrow-zero (fin s (suc m) e) t h =
-    let z : suc m * up e * 1 ≡ 0 * 1 * down e = eqb→eq (suc m * up e * 1) (0 * 1 * down e) (and-l (eqb (suc m * up e * 1) (0 * 1 * down e)) _ (yes h)) in
+    let z : suc m * up e * 1 ≡ 0 * 1 * down e = eqb→eq (suc m * up e * 1) (0 * 1 * down e) (and-l (eqb (suc m * up e * 1) (0 * 1 * down e)) _ (known h)) in
     let w : 0 * 1 * down e ≡ 0 = zero-mul (down e) in
     let p : 0 < suc m * up e = mul-pos (zero-lt-suc m) (up-pos e) in
     absurd (omega arith)
@@ -275,9 +275,9 @@ narrow-zero (fin s (suc m) e) t h =
 pub narrow-nan : (x : Float) → lt zero+ x ≡ false → lt x zero+ ≡ false → eq x zero+ ≡ false → nan ≡ narrow x
 unfolding lt eq narrow
 narrow-nan nan p q r = refl
-narrow-nan (inf true) p q r = absurd (no q)
-narrow-nan (inf false) p q r = absurd (no p)
-narrow-nan (fin s m e) p q r = absurd (none s m e (no p) (no q) (no r))
+narrow-nan (inf true) p q r = absurd (known-not q)
+narrow-nan (inf false) p q r = absurd (known-not p)
+narrow-nan (fin s m e) p q r = absurd (none s m e (known-not p) (known-not q) (known-not r))
   where
     none : (s : Bool) (m : ℕ) (e : ℤ) → T (not (lt zero+ (fin s m e))) → T (not (lt (fin s m e) zero+)) → T (not (eq (fin s m e) zero+)) → ⊥
     none false m e a b c =

@@ -18,28 +18,28 @@ use Rattle.float.specs.Base.{zero+, two-to, minus-two-to}
 
 -- ---- what a rule of rounding a fraction to a whole number keeps: a whole number stays, and none below P goes above it
 
-pub record Rule (g : ℕ → ℕ → ℕ) : Type 0 where
+pub record WholeRule (g : ℕ → ℕ → ℕ) : Type 0 where
   pub stays : (n c : ℕ) → 0 < c → g (n * c) c ≡ n
   pub small : (a c P : ℕ) → 0 < c → a < P * c → g a c ≤ P
 
-pub next : (P c : ℕ) → (P + 1) * c ≡ P * c + c
-next P c = add-mul P 1 c ∙ ap (λ (z : ℕ). P * c + z) (one-mul c)
+pub next-multiple : (P c : ℕ) → (P + 1) * c ≡ P * c + c
+next-multiple P c = add-mul P 1 c ∙ ap (λ (z : ℕ). P * c + z) (one-mul c)
 
-pub down-rule : (s : Bool) → Rule (downward s)
+pub down-rule : (s : Bool) → WholeRule (downward s)
 down-rule true = record {
   stays = λ n c C. digits-div n (pred c C);
-  small = λ a c P C h. let l : (a + (c - 1)) / c < P + 1 = div-lt-iff-lt-mul C .1 (let e = next P c in omega arith) in omega arith;
+  small = λ a c P C h. let l : (a + (c - 1)) / c < P + 1 = div-lt-iff-lt-mul C .1 (let e = next-multiple P c in omega arith) in omega arith;
 }
   where
     pred : (c : ℕ) → 0 < c → c - 1 < c
     pred c h = omega arith
 down-rule false = record { stays = λ n c C. mul-div-cancel n C; small = λ a c P C h. le-of-lt (div-lt-iff-lt-mul C .1 h) }
 
-pub half-rule : Rule halfAway
+pub half-rule : WholeRule halfAway
 half-rule = record {
   stays = λ n c C. ap (λ (z : ℕ). (z + c) / (c * 2)) (mul-assoc n c 2) ∙ digits-div n (more c C);
   small = λ a c P C h.
-      let e : (P + 1) * (c * 2) ≡ P * c * 2 + c * 2 = next P (c * 2) ∙ ap (λ (z : ℕ). z + c * 2) (sym (mul-assoc P c 2)) in
+      let e : (P + 1) * (c * 2) ≡ P * c * 2 + c * 2 = next-multiple P (c * 2) ∙ ap (λ (z : ℕ). z + c * 2) (sym (mul-assoc P c 2)) in
       let l : (a * 2 + c) / (c * 2) < P + 1 = div-lt-iff-lt-mul (twice c C) .1 (omega arith) in
       omega arith;
 }
@@ -57,7 +57,7 @@ Still nan = Unit
 Still (inf s) = Unit
 Still (fin s m e) = (n : ℕ) × (m * up e ≡ n * down e)
 
-rule-still : (f : Format) {g : ℕ → ℕ → ℕ} → Rule g → (s : Bool) (m : ℕ) (e : ℤ) → T (fits f (fin s m e)) → Still (fin s m e) → round f s (g (m * up e) (down e)) 1 ≡ fin s m e
+rule-still : (f : Format) {g : ℕ → ℕ → ℕ} → WholeRule g → (s : Bool) (m : ℕ) (e : ℤ) → T (fits f (fin s m e)) → Still (fin s m e) → round f s (g (m * up e) (down e)) 1 ≡ fin s m e
 rule-still f {g} r s m e t h =
     ap (λ (z : ℕ). round f s z 1) (ap (λ (z : ℕ). g z (down e)) (h .1) ∙ r .stays (h .0) (down e) (down-pos e))
     ∙ round-to f (fin s m e) s (h .0) 1 (zero-lt-suc 0) t (refl, mul-one (m * up e) ∙ h .1)
@@ -138,7 +138,7 @@ under-half : (f : Format) → 2 ^ (prec f - 1) ≤ 2 ^ prec f
 under-half binary32 = lit≤ tt
 under-half binary64 = lit≤ tt
 
-rule-value : (f : Format) {g : ℕ → ℕ → ℕ} → Rule g → (s : Bool) (m : ℕ) (e : ℤ) → T (fits f (fin s m e)) → HasValue (round f s (g (m * up e) (down e)) 1) s (g (m * up e) (down e)) 1
+rule-value : (f : Format) {g : ℕ → ℕ → ℕ} → WholeRule g → (s : Bool) (m : ℕ) (e : ℤ) → T (fits f (fin s m e)) → HasValue (round f s (g (m * up e) (down e)) 1) s (g (m * up e) (down e)) 1
 rule-value f {g} r s m e t = go (leb (2 ^ (prec f - 1) * down e) (m * up e)) (leb→le (2 ^ (prec f - 1) * down e) (m * up e)) (nleb→lt (2 ^ (prec f - 1) * down e) (m * up e))
   where
     go : (b : Bool) → (T b → 2 ^ (prec f - 1) * down e ≤ m * up e) → (T (not b) → m * up e < 2 ^ (prec f - 1) * down e) → HasValue (round f s (g (m * up e) (down e)) 1) s (g (m * up e) (down e)) 1

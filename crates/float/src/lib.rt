@@ -6,7 +6,7 @@ ghost use Prim.Native.Nat.{max};
 ghost use lib.Dec.{T};
 ghost use lib.Ieee.{binary32, binary64, ofBits, lt, toSigned};
 ghost use Rattle.float.specs.Base.{zero+, two-to};
-ghost use Rattle.float.specs.Calls.{clamped, floor, ceil, roundAway, roundedByte, narrow, absolute, least, most, inUnit, Under};
+ghost use Rattle.float.specs.Calls.{clamped, floor, ceil, roundAway, roundedByte, narrow, absolute, smaller, larger, inUnit, Under};
 use std::num::truncating_f64_to_i64;
 
 // For 0 <= x < 2^23 with the sign clear: `x.round()`. From 2^23 on an `f32` has no fraction, so adding 2^23
@@ -125,7 +125,7 @@ pub fn ceil_f64_to_i64(x: f64) -> i64
 
 // `a.min(b)`: b where a is a NaN, a where b is one.
 pub fn min_f32(a: f32, b: f32) -> f32
-    ensures { λ r. ⌜ r ≡ least a b ⌝ }
+    ensures { λ r. ⌜ r ≡ smaller a b ⌝ }
 {
     if a != a {
         return b;
@@ -135,7 +135,7 @@ pub fn min_f32(a: f32, b: f32) -> f32
 
 // `a.max(b)`: b where a is a NaN, a where b is one.
 pub fn max_f64(a: f64, b: f64) -> f64
-    ensures { λ r. ⌜ r ≡ most a b ⌝ }
+    ensures { λ r. ⌜ r ≡ larger a b ⌝ }
 {
     if a != a {
         return b;

@@ -12,8 +12,8 @@ use lib.Ieee.{Float, nan, inf, fin, Format, prec, emax, low, up, down, round, su
 use lib.Ieee.Fits.{down-pos}
 use lib.Ieee.Exact.{HasValue}
 use Rattle.float.specs.Fraction.{add-at}
-use Rattle.float_laws.specs.Exact.{Is, signed, abs-neg, abs-signed, pos-neg}
-use Rattle.float_laws.specs.Bounds.{Within}
+use Rattle.float_laws.specs.Values.{Is, signed, Within}
+use Rattle.float_laws.specs.Exact.{abs-neg, abs-signed, pos-neg}
 use Rattle.float_laws.specs.Error.{rounded}
 
 -- ---- a sum is one rounding of the exact sum

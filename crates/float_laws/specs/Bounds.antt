@@ -1,5 +1,5 @@
--- Bounds on sizes. `Within x a c`: x is finite and at most a / c in size. `Holds f a c`: the format f holds the fraction a / c. An operation whose exact result is at most a / c in size gives
--- a value that is, where the format holds a / c, since rounding keeps the order. Generic over the format.
+-- Bounds on sizes: an operation whose exact result is at most a / c in size gives a value that is, where the format holds a / c, since rounding keeps the order.
+-- Generic over the format.
 use mathlib.Core.Path.{_≡_, sym, ap, _∙_, subst}
 use mathlib.Core.Logic.{inl, inr}
 use mathlib.Core.Bool.{Bool, true, false, _&&_, Bool·beq, cond}
@@ -18,14 +18,7 @@ use Rattle.seq.specs.Lists.{sumTo}
 use Rattle.float.specs.Fraction.{value-scale, at-most}
 use Rattle.float.specs.Rounding.{neg-round, exact-at, round-shape, inf-not-le}
 use Rattle.float.specs.Calls.{roundAway, halfAway}
-
-abbrev pub Within : Float → ℕ → ℕ → Type 0
-Within nan a c = ⊥
-Within (inf s) a c = ⊥
-Within (fin s m e) a c = m * up e * c ≤ a * down e
-
-abbrev pub Holds : Format → ℕ → ℕ → Type 0
-Holds f a c = HasValue (round f false a c) false a c
+use Rattle.float_laws.specs.Values.{Within, Holds}
 
 -- ---- which fractions a format holds
 

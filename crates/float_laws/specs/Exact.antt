@@ -1,5 +1,5 @@
--- `Is c x z`: the float x is finite and denotes z / c, either zero standing for 0. Where every value is a multiple of 1 / 2 ^ l and none exceeds 2 ^ prec of them,
--- a float addition, negation and comparison are those of whole numbers. Generic over the format.
+-- Values that denote z / c exactly. Where every value is a multiple of 1 / 2 ^ l and none exceeds 2 ^ prec of them, a float addition, negation and comparison are those of whole numbers.
+-- Generic over the format.
 use mathlib.Core.Path.{_≡_, refl, sym, ap, _∙_, subst}
 use mathlib.Core.Bool.{Bool, true, false, not, _&&_, cond}
 use Prim.Native.Nat.{ℕ, zero, suc, _+_, _-_, _^_, _≤_, _<_}
@@ -14,17 +14,7 @@ use Rattle.float.specs.Fraction.{add-at, neg-value, lt-at, bool-iff}
 use lib.Ieee.Scale.{finite}
 use Rattle.float.specs.Rounding.{held, exact-at}
 use Rattle.float.specs.Units.{inUnits, units-of}
-
--- ---- the relation
-
-abbrev pub signed : Bool → ℕ → ℤ
-signed s a = cond s (negℤ (pos a)) (pos a)
-
-pub record Is (c : ℕ) (x : Float) (z : ℤ) : Type 0 where
-  pub sign : Bool
-  pub size : ℕ
-  pub value : HasValue x sign size c
-  pub whole : signed sign size ≡ z
+use Rattle.float_laws.specs.Values.{signed, Is}
 
 pub abs-neg : (a : ℕ) → natAbs (negℤ (pos a)) ≡ a
 abs-neg zero = refl

@@ -12,9 +12,9 @@ use lib.Ieee.{Float, nan, inf, fin, Format, up, down, neg, fits, whole, toSigned
 use lib.Ieee.Fits.{down-pos, neg-fits}
 use lib.Ieee.Exact.{HasValue}
 use Rattle.float.specs.Fraction.{neg-value}
-use Rattle.float_laws.specs.Exact.{Is, signed, abs-signed}
+use Rattle.float_laws.specs.Values.{Is, signed, Within}
+use Rattle.float_laws.specs.Exact.{abs-signed}
 use Rattle.float.specs.Calls.{floor, ceil, downward}
-use Rattle.float_laws.specs.Bounds.{Within}
 use Rattle.float.specs.Whole.{floor-value}
 
 -- ---- a float that is a whole number, as an integer

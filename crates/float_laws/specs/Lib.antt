@@ -1,6 +1,8 @@
+pub mod Values
 pub mod Product
 pub mod Exact
 pub mod Score
+pub mod Scoring
 pub mod Bounds
 pub mod Shifted
 pub mod Error

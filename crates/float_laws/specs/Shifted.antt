@@ -10,7 +10,7 @@ use lib.Pow.{pow-add, pow-pos, pow-mono, pow-lt, shl-lt}
 use lib.Ieee.{Format, binary32, binary64, prec, emax, low}
 use lib.Ieee.Digits.{back}
 use lib.Ieee.Exact.{round-exact}
-use Rattle.float_laws.specs.Bounds.{Holds}
+use Rattle.float_laws.specs.Values.{Holds}
 
 one-lt : (f : Format) → 1 < 2 ^ prec f
 one-lt binary32 = lit< tt

@@ -11,9 +11,9 @@ use lib.Ieee.{Float, nan, inf, fin, up, down, le, level}
 use lib.Ieee.Fits.{down-pos, and-i, and-l, and-r, eq→eqb}
 use Rattle.float.specs.Fraction.{or-split, or-l, or-r}
 use Rattle.float.specs.Calls.{inUnit}
-use Rattle.float_laws.specs.Bounds.{Within}
+use Rattle.float_laws.specs.Values.{Within}
 use Rattle.float.specs.Base.{two-to, minus-two-to}
-use Rattle.float.specs.Known.{yes}
+use Rattle.float.specs.Known.{known}
 
 -- the order of two sizes, as the comparison of two values of one sign has it
 at-most→ : (s : Bool) (a b : ℕ) → T (ltb a b || (eqb (cond s b a) (cond s a b) && true)) → a ≤ b
@@ -36,7 +36,7 @@ at-most→ s a b t = elim (or-split (ltb a b) (eqb (cond s b a) (cond s a b) && 
 
 pub unit-within : (x : Float) → inUnit x ≡ true → Within x 1 1
 unfolding inUnit le
-unit-within x h = go x (yes h)
+unit-within x h = go x (known h)
   where
     go : (x : Float) → T (inUnit x) → Within x 1 1
     go nan t = absurd t

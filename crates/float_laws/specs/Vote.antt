@@ -14,11 +14,12 @@ use lib.Ieee.Scale.{grid, finite}
 use Rattle.float.specs.Fraction.{value-scale, sub-at}
 use Rattle.float_laws.specs.Product.{mul-value-at}
 use Rattle.seq.specs.Lists.{sumTo}
-use Rattle.float.specs.Calls.{floor, downward, least}
+use Rattle.float.specs.Calls.{floor, downward, smaller}
 use Rattle.float.specs.Step.{minus-at-most}
 use Rattle.float.specs.Whole.{floor-value}
 use Rattle.float.specs.Base.{zero-, two-to}
-use Rattle.float_laws.specs.Bounds.{Within, Holds, holds-whole, holds-scaled, round-within, within-more, sum-to-within, div-within}
+use Rattle.float_laws.specs.Values.{Within, Holds}
+use Rattle.float_laws.specs.Bounds.{holds-whole, holds-scaled, round-within, within-more, sum-to-within, div-within}
 use Rattle.float.specs.Rounding.{round-shape}
 
 abbrev one : Float
@@ -158,8 +159,8 @@ upto-number nan a c h = absurd h
 upto-number (inf s) a c h = refl
 upto-number (fin s m e) a c h = refl
 
-least-upto : (r q : Float) (b d b' d' a c : ℕ) → Upto r b d → Upto q b' d' → Upto r a c ⊎ Upto q a c → Upto (least r q) a c
-unfolding least
+least-upto : (r q : Float) (b d b' d' a c : ℕ) → Upto r b d → Upto q b' d' → Upto r a c ⊎ Upto q a c → Upto (smaller r q) a c
+unfolding smaller
 least-upto r q b d b' d' a c h k o =
     subst (λ (t : Bool). Upto (cond t q (cond (lt q r) q r)) a c) (sym (upto-number r b d h)) (go (lt q r) (lt-then-not q r b' d' b d k h) o refl)
   where
@@ -176,7 +177,7 @@ half-holds binary64 = holds-scaled binary64 1 1 (lit≤ tt) (lit≤ tt)
 twice-le : (a c : ℕ) → c < a * 2 → (c - a) * 2 ≤ 1 * c
 twice-le a c h = omega arith
 
-halves : (f : Format) (r : Float) → Upto r 1 1 → Upto (least r (sub f one r)) 1 2
+halves : (f : Format) (r : Float) → Upto r 1 1 → Upto (smaller r (sub f one r)) 1 2
 halves f nan h = absurd h
 halves f (inf s) h = absurd h
 halves f (fin true m e) h = absurd (true≢false (h .0))
@@ -224,10 +225,10 @@ one-less f (fin false m e) k =
 
 -- ---- the term, and the mean of four
 
-pub term-within : (f : Format) (x : Float) → T (fits f x) → T (finite x) → let r = sub f x (floor f x) in Within (sub f one (mul f four (least r (sub f one r)))) 1 1
+pub term-within : (f : Format) (x : Float) → T (fits f x) → T (finite x) → let r = sub f x (floor f x) in Within (sub f one (mul f four (smaller r (sub f one r)))) 1 1
 term-within f x t h =
     let r = sub f x (floor f x) in
-    one-less f (mul f four (least r (sub f one r))) (fourfold f (least r (sub f one r)) (halves f r (frac-upto f r (frac f x t h))))
+    one-less f (mul f four (smaller r (sub f one r))) (fourfold f (smaller r (sub f one r)) (halves f r (frac-upto f r (frac f x t h))))
 
 pub mean-within : (f : Format) (t : ℕ → Float) → ((k : ℕ) → k < 4 → Within (t k) 1 1) → Within (div f (sumTo (add f) zero- 4 t) four) 1 1
 mean-within f t h =

@@ -7,15 +7,17 @@ use native.Mathlib.Nat.{le-refl, eq-or-lt-of-le, add-zero, zero-add, add-suc}
 use native.Mathlib.Numerals.{add-one}
 use native.Mathlib.Omega.{arith}
 use lib.Arith.{digits-div, digits-mod}
-use lib.ListN.{length, getD, take, set, length-set}
+use lib.ListN.{length, getD, set, length-set}
 use lib.Seq.{ext-getD}
 use lib.Ieee.{Float, nan}
 use Rattle.seq.specs.Tab.{tab-same, length-tab, getD-tab, prefix-more}
 use Rattle.seq.specs.Lists.{tab}
 use Rattle.dither.specs.Dither.{ditherOf}
-use Rattle.dct.specs.Grid.{cell, cell-grid, length-grid}
-use Rattle.block.specs.Plane.{lineAt, loadOf, storedOf, length-stored, load-stored, load-other}
-use Rattle.plane.specs.Plane.{ditherFour, blockChange, blockVote, planeOfBlocks, changeOf}
+use Rattle.dct.specs.Grid.{cell}
+use Rattle.dct.specs.Columns.{cell-grid, length-grid}
+use Rattle.block.specs.Plane.{lineAt, loadOf, storedOf}
+use Rattle.block.specs.Stored.{length-stored, load-stored, load-other}
+use Rattle.plane.specs.Plane.{ditherFour, blockChange, planeOfBlocks, changeOf, changedBlock, changedFrom, planeVote, FirstVotes, ditherGroup}
 
 -- ---- the plane is made of its blocks
 
@@ -23,8 +25,8 @@ use Rattle.plane.specs.Plane.{ditherFour, blockChange, blockVote, planeO
 abbrev pub blockAt : ℕ → ℕ
 blockAt p = p / 2048 * 32 + p % 256 / 8
 
-pub block-below : (p : ℕ) → p < 65536 → blockAt p < 1024
-block-below p h = omega arith
+pub blockAt-below : (p : ℕ) → p < 65536 → blockAt p < 1024
+blockAt-below p h = omega arith
 
 -- and its line and column there
 place-is : (p : ℕ) → lineAt (blockAt p) (p / 256 % 8) + p % 8 ≡ p
@@ -51,18 +53,9 @@ plane-is f d l h =
     ext-getD nan d (planeOfBlocks f) (l ∙ sym (length-plane f))
     (λ p k.
     let P : p < 65536 = omega arith in
-    sym (cell-load d p) ∙ (ap (λ (x : List Float). cell x (p / 256 % 8) (p % 8)) (h (blockAt p) (block-below p P)) ∙ sym (place-of-plane f p P)))
+    sym (cell-load d p) ∙ (ap (λ (x : List Float). cell x (p / 256 % 8) (p % 8)) (h (blockAt p) (blockAt-below p P)) ∙ sym (place-of-plane f p P)))
 
 -- ---- block by block
-
--- what block b of the plane becomes
-abbrev pub changedBlock : List ℕ → List Float → ℕ → List Float
-changedBlock bits d b = blockChange (ditherFour b) (getD bits b 0) (loadOf d b)
-
--- the plane d whose n blocks from block a on became their changes
-unfoldable pub changedFrom : List ℕ → ℕ → ℕ → List Float → List Float
-changedFrom bits a zero d = d
-changedFrom bits a (suc n) d = storedOf (changedFrom bits a n d) (a + n) (changedBlock bits (changedFrom bits a n d) (a + n))
 
 length-changed : (bits : List ℕ) (d : List Float) (b : ℕ) → length (changedBlock bits d b) ≡ 64
 unfolding blockChange
@@ -108,30 +101,18 @@ module _ (bits : List ℕ) (d : List Float) where
   changed-first zero h l = (l, λ b k. absurd (omega arith), λ b k. refl)
   changed-first (suc n) h l = rw (zero-add n) (one-more n (changedFrom bits 0 n d) h (changed-first n (omega arith) l))
 
-  pub changed-all : length d ≡ 65536 → changedFrom bits 0 1024 d ≡ changeOf bits d
+  pub all-changed : length d ≡ 65536 → changedFrom bits 0 1024 d ≡ changeOf bits d
   unfolding changeOf
-  changed-all l =
+  all-changed l =
       let p = changed-first 1024 (le-refl 1024) l in
       plane-is (changedBlock bits d) (changedFrom bits 0 1024 d) (p .0) (λ b h. p .1 b h)
 
 -- ---- the votes
 
--- the vote of block b of the plane
-abbrev pub voteAt : List Float → ℕ → Float
-voteAt d b = blockVote (ditherFour b) (loadOf d b)
-
--- the first n are the votes of the plane's first n blocks
-abbrev pub FirstVotes : List Float → ℕ → List Float → Type 0
-FirstVotes d n votes = (length votes ≡ 1024) × (take n votes ≡ tab (voteAt d) n)
-
-pub votes-more : (d : List Float) (n : ℕ) (v : Float) (votes : List Float) → n < 1024 → v ≡ voteAt d n → FirstVotes d n votes → FirstVotes d (n + 1) (set votes n v)
-votes-more d n v votes h e p = (simp length-set (p .0), prefix-more (voteAt d) n v votes (omega (arith, p .0)) e (p .1))
+pub votes-more : (d : List Float) (n : ℕ) (v : Float) (votes : List Float) → n < 1024 → v ≡ planeVote d n → FirstVotes d n votes → FirstVotes d (n + 1) (set votes n v)
+votes-more d n v votes h e p = (simp length-set (p .0), prefix-more (planeVote d) n v votes (omega (arith, p .0)) e (p .1))
 
 -- ---- the dither
-
--- the numbers of block g of the keystream
-abbrev pub ditherGroup : ℕ → List Float
-ditherGroup g = tab (λ k. ditherOf (16 * g + k)) 16
 
 pub four-of-group : (u : List Float) (g k : ℕ) → k < 4 → u ≡ ditherGroup g → tab (λ i. getD u (4 * k + i) nan) 4 ≡ ditherFour (4 * g + k)
 unfolding ditherFour

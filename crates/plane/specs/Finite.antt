@@ -9,16 +9,19 @@ use lib.ListN.{length, getD}
 use lib.Ieee.{Float, nan, binary32, sub}
 use Rattle.seq.specs.Tab.{length-tab, getD-tab}
 use Rattle.float.specs.Calls.{inUnit}
-use Rattle.float_laws.specs.Bounds.{Within, value-within}
+use Rattle.float_laws.specs.Values.{Within}
+use Rattle.float_laws.specs.Bounds.{value-within}
 use Rattle.float_laws.specs.Unit.{within-unit}
-use Rattle.dither.specs.Dither.{ditherOf, dither-exact}
-use Rattle.dct.specs.Grid.{cell, cell-grid}
+use Rattle.dither.specs.Dither.{ditherOf}
+use Rattle.dither.specs.Numbers.{dither-exact}
+use Rattle.dct.specs.Grid.{cell}
+use Rattle.dct.specs.Columns.{cell-grid}
 use Rattle.dct.specs.Dct.{forwardOf, inverseOf}
 use Rattle.block.specs.Mark.{markedBlock}
 use Rattle.block.specs.Plane.{loadOf}
 use Rattle.block.specs.Finite.{Dither, load-within, plane-vote-within, marked-plane-within}
-use Rattle.plane.specs.Plane.{ditherFour, blockChange, blockVote, markedPlane, changeOf, votesOf}
-use Rattle.plane.specs.Blocks.{blockAt, block-below, cell-load, place-of-plane, changedBlock, voteAt}
+use Rattle.plane.specs.Plane.{ditherFour, blockChange, blockVote, markedPlane, changeOf, votesOf, changedBlock, planeVote}
+use Rattle.plane.specs.Blocks.{blockAt, blockAt-below, cell-load, place-of-plane}
 
 pub dither-within : (b : ℕ) → Dither (ditherFour b)
 unfolding ditherFour
@@ -31,13 +34,13 @@ dither-within b k K =
 
 pub length-votes : (d : List Float) → length (votesOf d) ≡ 1024
 unfolding votesOf
-length-votes d = length-tab (voteAt d) 1024
+length-votes d = length-tab (planeVote d) 1024
 
 pub votes-good : (d : List Float) → ((p : ℕ) → p < 65536 → Within (getD d p nan) (2 ^ 20) 1) → (b : ℕ) → b < 1024 → inUnit (getD (votesOf d) b nan) ≡ true
 unfolding votesOf blockVote
 votes-good d D b B =
-    ap inUnit (getD-tab (voteAt d) 1024 b nan B)
-    ∙ within-unit (voteAt d b) (plane-vote-within (loadOf d b) (ditherFour b) (load-within d (2 ^ 20) b B D) (dither-within b))
+    ap inUnit (getD-tab (planeVote d) 1024 b nan B)
+    ∙ within-unit (planeVote d b) (plane-vote-within (loadOf d b) (ditherFour b) (load-within d (2 ^ 20) b B D) (dither-within b))
 
 -- ---- the change
 
@@ -61,4 +64,4 @@ pub change-bounded : (bits : List ℕ) (d : List Float) → ((b : ℕ) → getD 
 change-bounded bits d B D p P =
     let b = blockAt p in
     subst (λ (x : Float). Within x (2 ^ 29) 1) (sym (change-at bits d p P))
-    (marked-plane-within (ditherFour b) (loadOf d b) (getD bits b 0) (B b) (dither-within b) (load-within d (2 ^ 20) b (block-below p P) D) (p / 256 % 8) (p % 8) (omega arith) (omega arith))
+    (marked-plane-within (ditherFour b) (loadOf d b) (getD bits b 0) (B b) (dither-within b) (load-within d (2 ^ 20) b (blockAt-below p P) D) (p / 256 % 8) (p % 8) (omega arith) (omega arith))

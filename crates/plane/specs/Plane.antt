@@ -1,7 +1,7 @@
 -- The mark on the plane: each of its 1,024 blocks carries a bit, and gives a vote on it. From the scope paper and the Rust: block b and coefficient k use the dither's number 4 b + k; the change is the marked plane minus the plane. Definitions only.
 use mathlib.Core.List.{List}
-use Prim.Native.Nat.{ℕ, _+_, _*_, _/_, _%_}
-use lib.ListN.{getD}
+use Prim.Native.Nat.{ℕ, _+_, _*_, _/_, _%_, zero, suc}
+use lib.ListN.{getD, length, take}
 use lib.Ieee.{Float, binary32, sub}
 use Rattle.seq.specs.Lists.{tab}
 use Rattle.dither.specs.Dither.{ditherOf}
@@ -9,7 +9,8 @@ use Rattle.dct.specs.Grid.{grid, cell}
 use Rattle.dct.specs.Dct.{forwardOf, inverseOf}
 use Rattle.block.specs.Mark.{markedBlock}
 use Rattle.block.specs.Soft.{voteOf}
-use Rattle.block.specs.Plane.{loadOf}
+use Rattle.block.specs.Plane.{loadOf, storedOf}
+use mathlib.Core.Path.{_≡_}
 
 -- the dither numbers of block b
 unfoldable pub ditherFour : ℕ → List Float
@@ -40,3 +41,26 @@ blockVote u x = voteOf u (forwardOf x)
 
 unfoldable pub votesOf : List Float → List Float
 votesOf d = tab (λ b. blockVote (ditherFour b) (loadOf d b)) 1024
+
+-- ---- the plane on the way: some blocks changed, some votes found
+
+-- what block b of the plane becomes
+abbrev pub changedBlock : List ℕ → List Float → ℕ → List Float
+changedBlock bits d b = blockChange (ditherFour b) (getD bits b 0) (loadOf d b)
+
+-- the plane d whose n blocks from block a on became their changes
+unfoldable pub changedFrom : List ℕ → ℕ → ℕ → List Float → List Float
+changedFrom bits a zero d = d
+changedFrom bits a (suc n) d = storedOf (changedFrom bits a n d) (a + n) (changedBlock bits (changedFrom bits a n d) (a + n))
+
+-- the vote of block b of the plane
+abbrev pub planeVote : List Float → ℕ → Float
+planeVote d b = blockVote (ditherFour b) (loadOf d b)
+
+-- the first n are the votes of the plane's first n blocks
+abbrev pub FirstVotes : List Float → ℕ → List Float → Type 0
+FirstVotes d n votes = (length votes ≡ 1024) × (take n votes ≡ tab (planeVote d) n)
+
+-- the numbers of block g of the keystream
+abbrev pub ditherGroup : ℕ → List Float
+ditherGroup g = tab (λ k. ditherOf (16 * g + k)) 16

@@ -14,10 +14,9 @@ ghost use lib.ListN.{length, getD};
 ghost use lib.Ieee.{nan, binary32, sub};
 ghost use Rattle.seq.specs.Lists.{tab};
 ghost use Rattle.dct.specs.Grid.{grid, cell};
-ghost use Rattle.dct.specs.Matrix.{entry, turnedEntry};
+ghost use Rattle.dct.specs.Matrix.{dctEntry, dctTurned};
 ghost use Rattle.block.specs.Plane.{loadOf};
-ghost use Rattle.plane.specs.Plane.{blockChange, blockVote, changeOf, votesOf};
-ghost use Rattle.plane.specs.Blocks.{ditherGroup, changedFrom, FirstVotes};
+ghost use Rattle.plane.specs.Plane.{blockChange, blockVote, changeOf, votesOf, ditherGroup, changedFrom, FirstVotes};
 
 // The dither's numbers come for four blocks at a time.
 const IN_GROUP: usize = 4;
@@ -53,7 +52,7 @@ fn block_change(
     matrix: &[f32; 64],
     turned: &[f32; 64],
 ) -> [f32; 64]
-    requires { ⌜ (now matrix ≡ grid entry) × (now turned ≡ grid turnedEntry) ⌝ }
+    requires { ⌜ (now matrix ≡ grid dctEntry) × (now turned ≡ grid dctTurned) ⌝ }
     ensures { λ r. ⌜ r ≡ blockChange u bit (now (values .entry)) ⌝ }
 {
     let mut marked = *values;
@@ -72,7 +71,7 @@ fn embed_four(
     matrix: &[f32; 64],
     turned: &[f32; 64],
 )
-    requires { ⌜ (group < 256) × (length (now plane) ≡ 65536) × (now u ≡ ditherGroup group) × (now matrix ≡ grid entry) × (now turned ≡ grid turnedEntry) ⌝ }
+    requires { ⌜ (group < 256) × (length (now plane) ≡ 65536) × (now u ≡ ditherGroup group) × (now matrix ≡ grid dctEntry) × (now turned ≡ grid dctTurned) ⌝ }
     ensures { λ _. ⌜ now (plane .exit) ≡ changedFrom (now (bits .entry)) (4 * group) 4 (now (plane .entry)) ⌝ }
 {
     for k in 0..IN_GROUP {
@@ -98,7 +97,7 @@ pub fn embed_bits(plane: &mut [f32], bits: &[u8; 1024])
 
 // The vote of block b.
 fn vote(plane: &[f32], b: usize, u: [f32; 4], matrix: &[f32; 64], turned: &[f32; 64]) -> f32
-    requires { ⌜ (b < 1024) × (length (now plane) ≡ 65536) × (now matrix ≡ grid entry) × (now turned ≡ grid turnedEntry) ⌝ }
+    requires { ⌜ (b < 1024) × (length (now plane) ≡ 65536) × (now matrix ≡ grid dctEntry) × (now turned ≡ grid dctTurned) ⌝ }
     ensures { λ r. ⌜ r ≡ blockVote u (loadOf (now (plane .entry)) b) ⌝ }
 {
     let mut values = load_block(plane, b);
@@ -115,7 +114,7 @@ fn four_votes(
     matrix: &[f32; 64],
     turned: &[f32; 64],
 )
-    requires { ⌜ (group < 256) × (length (now plane) ≡ 65536) × (now u ≡ ditherGroup group) × (now matrix ≡ grid entry) × (now turned ≡ grid turnedEntry) ⌝ }
+    requires { ⌜ (group < 256) × (length (now plane) ≡ 65536) × (now u ≡ ditherGroup group) × (now matrix ≡ grid dctEntry) × (now turned ≡ grid dctTurned) ⌝ }
     requires { ⌜ FirstVotes (now plane) (4 * group) (now votes) ⌝ }
     ensures { λ _. ⌜ FirstVotes (now (plane .entry)) (4 * group + 4) (now (votes .exit)) ⌝ }
 {

@@ -10,7 +10,7 @@ ghost use mathlib.Core.Path.{_≡_};
 ghost use lib.ListN.{length};
 ghost use Rattle.replay_lists.specs.Fields.{InText};
 ghost use Rattle.dct.specs.Grid.{grid};
-ghost use Rattle.dct.specs.Matrix.{entry, turnedEntry};
+ghost use Rattle.dct.specs.Matrix.{dctEntry, dctTurned};
 
 enum Stage {
     Forward,
@@ -43,7 +43,7 @@ fn dither_of(raw: &[u8]) -> [f32; 4]
 // What `block` makes of the stored bytes: a block, then its four dither numbers and its bit. A vote stands at the
 // start of a block of zeros.
 fn answer(stage: Stage, raw: &[u8], matrix: &[f32; 64], turned: &[f32; 64]) -> [f32; 64]
-    requires { ⌜ (273 ≤ length (now raw)) × (now matrix ≡ grid entry) × (now turned ≡ grid turnedEntry) ⌝ }
+    requires { ⌜ (273 ≤ length (now raw)) × (now matrix ≡ grid dctEntry) × (now turned ≡ grid dctTurned) ⌝ }
 {
     let mut values = block_of(raw);
     if let Stage::Inverse = stage {

@@ -13,31 +13,32 @@ use lib.Ieee.{Float, nan, binary32, ofBits, ofInt, add, mul}
 use Rattle.seq.specs.Tab.{getD-tab, length-tab}
 use Rattle.seq.specs.Lines.{getD-lines}
 use Rattle.float.specs.Base.{zero+, zero-}
-use Rattle.float_laws.specs.Bounds.{Within, Holds, holds-scaled, within-more, round-within, add-within, mul-within}
+use Rattle.float_laws.specs.Values.{Within, Holds}
+use Rattle.float_laws.specs.Bounds.{holds-scaled, within-more, round-within, add-within, mul-within}
 use Rattle.float_laws.specs.Shifted.{Room, room-power}
-use Rattle.resample_window.specs.Window.{Tap, taps, longest}
+use Rattle.resample_window.specs.Window.{Tap, taps, longestSide}
 use Rattle.resample_window_laws.specs.Reach.{reach, taps-few, taps-from, taps-room-down}
 use Rattle.resample_window_laws.specs.Weights.{weights-within}
 use Rattle.resample.specs.Tables.{noTap}
-use Rattle.resample.specs.Resampled.{total, across, resampled}
-use Rattle.resample.specs.Samples.{rowOf, value, lumaFrom, lumaAt, planeRow, planeOf, changeRow}
+use Rattle.resample.specs.Resampled.{tapTotal, across, resampled}
+use Rattle.resample.specs.Samples.{rowOf, sampleValue, lumaFrom, lumaAt, planeRow, planeOf, changeRow}
 
 -- every sample is below 256; behind the last a list reads as 0
-abbrev pub Bytes : List ℕ → Type 0
-Bytes d = (p : ℕ) → getD d p 0 < 256
+abbrev pub ByteSamples : List ℕ → Type 0
+ByteSamples d = (p : ℕ) → getD d p 0 < 256
 
 -- ---- a luma
 
-value-within : (row : List ℕ) (p : ℕ) → Bytes row → Within (value row p) 255 1
+value-within : (row : List ℕ) (p : ℕ) → ByteSamples row → Within (sampleValue row p) 255 1
 unfolding ofInt
 value-within row p B = round-within binary32 _ (getD row p 0) 1 255 1 (zero-lt-suc 0) (zero-lt-suc 0) (holds-scaled binary32 255 0 (lit≤ tt) (lit≤ tt)) (let b : getD row p 0 < 256 = B p in omega arith)
 
 -- a constant that is at most n / 1024 times a sample
-part-within : (w : Float) (n : ℕ) (row : List ℕ) (p : ℕ) → n ≤ 1024 → Bytes row → Within w n 1024 → Within (mul binary32 w (value row p)) (n * 255) 1024
-part-within w n row p N B W = mul-within binary32 w (value row p) n 1024 255 1 (zero-lt-suc 1023) (zero-lt-suc 0) (holds-scaled binary32 (n * 255) 10 (lit≤ tt) (omega arith)) W (value-within row p B)
+part-within : (w : Float) (n : ℕ) (row : List ℕ) (p : ℕ) → n ≤ 1024 → ByteSamples row → Within w n 1024 → Within (mul binary32 w (sampleValue row p)) (n * 255) 1024
+part-within w n row p N B W = mul-within binary32 w (sampleValue row p) n 1024 255 1 (zero-lt-suc 1023) (zero-lt-suc 0) (holds-scaled binary32 (n * 255) 10 (lit≤ tt) (omega arith)) W (value-within row p B)
 
 -- 0.299, 0.587 and 0.114 are at most 307, 602 and 117 of 1024 parts, which with samples up to 255 stays below 256
-pub luma-within : (channels : ℕ) (row : List ℕ) (x : ℕ) → Bytes row → Within (lumaAt channels row x) (2 ^ 8) 1
+pub luma-within : (channels : ℕ) (row : List ℕ) (x : ℕ) → ByteSamples row → Within (lumaAt channels row x) (2 ^ 8) 1
 unfolding lumaFrom ofBits
 luma-within channels row x B =
     within-more (lumaAt channels row x) (307 * 255 + 602 * 255 + 117 * 255) 1024 (2 ^ 8) 1 (zero-lt-suc 1023)
@@ -52,8 +53,8 @@ luma-within channels row x B =
 
 -- at most n taps, each weight at most 1 and each value that is read at most a
 module _ (f : ℕ → Float) (u : Tap) (n a : ℕ) (H : Room binary32 n a 1) where
-  total-from : (z : Float) (ts : List Tap) (b : ℕ) → b + length ts ≤ n → Within z (b * a) 1 → ((i : ℕ) → i < length ts → Within (getD ts i u .weight) 1 1) → ((i : ℕ) → i < length ts → Within (f (getD ts i u .from)) a 1) → Within (total z ts f) (n * a) 1
-  unfolding total
+  total-from : (z : Float) (ts : List Tap) (b : ℕ) → b + length ts ≤ n → Within z (b * a) 1 → ((i : ℕ) → i < length ts → Within (getD ts i u .weight) 1 1) → ((i : ℕ) → i < length ts → Within (f (getD ts i u .from)) a 1) → Within (tapTotal z ts f) (n * a) 1
+  unfolding tapTotal
   total-from z [] b L Z W F = within-more z (b * a) 1 (n * a) 1 (zero-lt-suc 0) Z (omega (arith, mul-le-mul-right a (let l : b ≤ n = omega arith in l)))
   total-from z (t ∷ ts) b L Z W F =
       let s : suc b * a ≡ b * a + a = suc-mul b a in
@@ -68,13 +69,13 @@ module _ (f : ℕ → Float) (u : Tap) (n a : ℕ) (H : Room binary32 n a 1) whe
       (add-within binary32 z (mul binary32 (t .weight) (f (t .from))) (b * a) a 1 (zero-lt-suc 0) (subst (λ (w : ℕ). Holds binary32 w 1) s (H (suc b) more)) Z P))
       (λ i I. W (suc i) (omega arith)) (λ i I. F (suc i) (omega arith))
 
-  pub total-within : (z : Float) (ts : List Tap) → Within z 0 1 → length ts ≤ n → ((i : ℕ) → i < length ts → Within (getD ts i u .weight) 1 1) → ((i : ℕ) → i < length ts → Within (f (getD ts i u .from)) a 1) → Within (total z ts f) (n * a) 1
+  pub total-within : (z : Float) (ts : List Tap) → Within z 0 1 → length ts ≤ n → ((i : ℕ) → i < length ts → Within (getD ts i u .weight) 1 1) → ((i : ℕ) → i < length ts → Within (f (getD ts i u .from)) a 1) → Within (tapTotal z ts f) (n * a) 1
   total-within z ts Z L W F = total-from z ts 0 (omega arith) (within-more z 0 1 (0 * a) 1 (zero-lt-suc 0) Z (omega arith)) W F
 
 -- ---- an axis, and both
 
 -- with no more taps than n
-axis-within : (z : Float) (src dst x : ℕ) (f : ℕ → Float) (n a : ℕ) → Within z 0 1 → 0 < src → 2 * reach src dst ≤ n → Room binary32 n a 1 → ((k : ℕ) → k < src → Within (f k) a 1) → Within (total z (taps src dst x) f) (n * a) 1
+axis-within : (z : Float) (src dst x : ℕ) (f : ℕ → Float) (n a : ℕ) → Within z 0 1 → 0 < src → 2 * reach src dst ≤ n → Room binary32 n a 1 → ((k : ℕ) → k < src → Within (f k) a 1) → Within (tapTotal z (taps src dst x) f) (n * a) 1
 axis-within z src dst x f n a Z S L H F =
     total-within f noTap n a H z (taps src dst x) Z (le-trans (taps-few src dst x) L) (weights-within src dst x noTap)
     (λ i I. F (getD (taps src dst x) i noTap .from) (taps-from src dst x noTap S i I))
@@ -89,20 +90,20 @@ resampled-within w h n m f y x c d a W H C D P Q F = axis-within zero+ h m y (λ
 
 -- ---- the plane
 
-below-take : (n : ℕ) (d : List ℕ) → Bytes d → Bytes (take n d)
+below-take : (n : ℕ) (d : List ℕ) → ByteSamples d → ByteSamples (take n d)
 below-take zero d B p = lit≤ tt
 below-take (suc n) [] B p = lit≤ tt
 below-take (suc n) (x ∷ d) B zero = B 0
 below-take (suc n) (x ∷ d) B (suc p) = below-take n d (λ q. B (suc q)) p
 
-pub row-below : (n : ℕ) (d : List ℕ) (y : ℕ) → Bytes d → Bytes (rowOf n d y)
+pub row-below : (n : ℕ) (d : List ℕ) (y : ℕ) → ByteSamples d → ByteSamples (rowOf n d y)
 unfolding rowOf
 row-below n d y B = below-take n (drop (y * n) d) (λ p. subst (λ (z : ℕ). z < 256) (sym (getD-drop (y * n) d p 0)) (B (y * n + p)))
 
-few-down : (src : ℕ) → src ≤ longest → 2 * reach src 256 ≤ 64
+few-down : (src : ℕ) → src ≤ longestSide → 2 * reach src 256 ≤ 64
 few-down src h = omega (arith, taps-room-down src h)
 
-pub plane-within : (width height channels : ℕ) (samples : List ℕ) → 0 < width → width ≤ 8192 → 0 < height → height ≤ 8192 → Bytes samples → (p : ℕ) → p < 65536 → Within (getD (planeOf width height channels samples) p nan) (2 ^ 20) 1
+pub plane-within : (width height channels : ℕ) (samples : List ℕ) → 0 < width → width ≤ 8192 → 0 < height → height ≤ 8192 → ByteSamples samples → (p : ℕ) → p < 65536 → Within (getD (planeOf width height channels samples) p nan) (2 ^ 20) 1
 unfolding planeOf planeRow
 plane-within width height channels samples W W' H H' B p P =
     let row : ℕ → ℕ → Float = λ k. lumaAt channels (rowOf (width * channels) samples k) in

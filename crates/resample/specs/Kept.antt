@@ -1,4 +1,4 @@
--- Rows that are kept for use again.
+-- Laws on rows that are kept for use again.
 use mathlib.Core.Path.{_≡_, refl, sym, _∙_, ap, subst}
 use mathlib.Core.Logic.{_⊎_, inl, inr}
 use mathlib.Core.List.{List, _++_}
@@ -15,13 +15,7 @@ use Rattle.seq.specs.Lines.{part-tab}
 use Rattle.seq.specs.Part.{length-onPart, onPart-before, onPart-after}
 use Rattle.seq.specs.Lists.{onPart}
 use Rattle.seq.specs.Rows.{row-fits}
-
--- `held` has, for each of the places, 0 or one more than the number of the row that stands there, n values from the place's first on
-pub record Kept (row : ℕ → List Float) (n stride places : ℕ) (held : List ℕ) (rows : List Float) : Type 0 where
-  pub is : (s k : ℕ) → s < places → getD held s 0 ≡ suc k → take n (drop (s * stride) rows) ≡ row k
-  pub held-room : length held ≡ places
-  pub rows-room : length rows ≡ places * stride
-  pub fits : n ≤ stride
+use Rattle.resample.specs.Tables.{KeptRows}
 
 -- the size of a part, as it is written where one is lent
 pub part-size : (a n : ℕ) → a + n - a ≡ n
@@ -51,7 +45,7 @@ part-apart a n v d b h l k o =
         let j : a + n + (b + i - (a + n)) ≡ b + i = omega arith in
         subst (λ (m : ℕ). getD (onPart a n (λ (x : List Float). v) d) m nan ≡ getD d m nan) j (onPart-after a n (λ (x : List Float). v) d (b + i - (a + n)) nan h l)
 
-module _ (row : ℕ → List Float) (n stride places : ℕ) (held : List ℕ) (rows : List Float) (K : Kept row n stride places held rows) (s k : ℕ) (S : s < places) (v : List Float) (long : length v ≡ n) (E : v ≡ row k) where
+module _ (row : ℕ → List Float) (n stride places : ℕ) (held : List ℕ) (rows : List Float) (K : KeptRows row n stride places held rows) (s k : ℕ) (S : s < places) (v : List Float) (long : length v ≡ n) (E : v ≡ row k) where
   fits-at : (r : ℕ) → r < places → r * stride + n ≤ length rows
   fits-at r R = omega (arith, row-fits r stride places R, mul-comm stride places, K .rows-room, K .fits)
 
@@ -62,7 +56,7 @@ module _ (row : ℕ → List Float) (n stride places : ℕ) (held : List ℕ) (r
       let e : length (take (s * stride) rows) ≡ s * stride = length-take-le (s * stride) rows (omega (arith, fits-at s S)) in
       ap (take n) (drop-at (take (s * stride) rows) (v ++ drop n (drop (s * stride) rows)) (s * stride) e) ∙ (take-at v (drop n (drop (s * stride) rows)) n long ∙ E)
 
-  pub kept-new : Kept row n stride places (set held s (k + 1)) (onPart (s * stride) n (λ (x : List Float). v) rows)
+  pub kept-new : KeptRows row n stride places (set held s (k + 1)) (onPart (s * stride) n (λ (x : List Float). v) rows)
   kept-new =
       record {
         is = λ r j R e. go r j R e (sides r s);
@@ -83,11 +77,11 @@ module _ (row : ℕ → List Float) (n stride places : ℕ) (held : List ℕ) (r
       go r j R e (inr (inr l)) = other r j R (λ q. absurd (omega arith)) e (inr (omega (arith, row-fits s stride r l, mul-comm stride r, K .fits)))
 
 -- none is kept at first
-pub kept-none : (row : ℕ → List Float) (n stride places : ℕ) (held : List ℕ) (rows : List Float) → ((s : ℕ) → getD held s 0 ≡ 0) → length held ≡ places → length rows ≡ places * stride → n ≤ stride → Kept row n stride places held rows
+pub kept-none : (row : ℕ → List Float) (n stride places : ℕ) (held : List ℕ) (rows : List Float) → ((s : ℕ) → getD held s 0 ≡ 0) → length held ≡ places → length rows ≡ places * stride → n ≤ stride → KeptRows row n stride places held rows
 kept-none row n stride places held rows z h r f = record { is = λ s k S e. absurd (omega (arith, sym (z s) ∙ e)); held-room = h; rows-room = r; fits = f }
 
 -- and `held` is all 0 then
-pub kept-empty : (row : ℕ → List Float) (n stride places : ℕ) (rows : List Float) → length rows ≡ places * stride → n ≤ stride → Kept row n stride places (replicate places 0) rows
+pub kept-empty : (row : ℕ → List Float) (n stride places : ℕ) (rows : List Float) → length rows ≡ places * stride → n ≤ stride → KeptRows row n stride places (replicate places 0) rows
 kept-empty row n stride places rows r f = kept-none row n stride places (replicate places 0) rows (zeros places) (length-replicate places 0) r f
   where
     zeros : (m s : ℕ) → getD {A = ℕ} (replicate m 0) s 0 ≡ 0

@@ -1,6 +1,8 @@
 pub mod Resampled
+pub mod Sheet
 pub mod Samples
 pub mod Tables
+pub mod Taps
 pub mod Kept
 pub mod Pixels
 pub mod Sums

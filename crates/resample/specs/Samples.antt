@@ -9,15 +9,15 @@ use lib.ListN.{length, take, drop, getD}
 use lib.Ieee.{Float, nan, binary32, ofBits, ofInt, add, mul}
 use Rattle.seq.specs.Lists.{tab, lines}
 use Rattle.float.specs.Calls.{roundedByte}
-use Rattle.resample_window.specs.Window.{longest}
+use Rattle.resample_window.specs.Window.{longestSide}
 use Rattle.resample.specs.Resampled.{across, resampled}
 
 -- the sides and channels that a picture may have, and as many samples
 pub record Sized (width height channels : ℕ) (samples : List ℕ) : Type 0 where
   pub wide : 0 < width
-  pub width-most : width ≤ longest
+  pub width-most : width ≤ longestSide
   pub high : 0 < height
-  pub height-most : height ≤ longest
+  pub height-most : height ≤ longestSide
   pub three : 3 ≤ channels
   pub four : channels ≤ 4
   pub full : length samples ≡ width * channels * height
@@ -29,8 +29,8 @@ rowOf n d y = take n (drop (y * n) d)
 -- ---- from samples to the plane
 
 -- a sample as a value
-abbrev pub value : List ℕ → ℕ → Float
-value row p = ofInt binary32 (pos (getD row p 0))
+abbrev pub sampleValue : List ℕ → ℕ → Float
+sampleValue row p = ofInt binary32 (pos (getD row p 0))
 
 -- 0.299, 0.587 and 0.114
 abbrev pub red : Float
@@ -44,7 +44,7 @@ blue = ofBits binary32 0x3de9_78d5
 
 -- (0.299 R + 0.587 G) + 0.114 B of the pixel whose samples start at place p
 unfoldable pub lumaFrom : List ℕ → ℕ → Float
-lumaFrom row p = add binary32 (add binary32 (mul binary32 red (value row p)) (mul binary32 green (value row (p + 1)))) (mul binary32 blue (value row (p + 2)))
+lumaFrom row p = add binary32 (add binary32 (mul binary32 red (sampleValue row p)) (mul binary32 green (sampleValue row (p + 1)))) (mul binary32 blue (sampleValue row (p + 2)))
 
 -- of pixel x
 abbrev pub lumaAt : ℕ → List ℕ → ℕ → Float
@@ -72,7 +72,7 @@ changeRow width height change y = tab (resampled 256 256 width height (λ k i. g
 
 -- sample p of a row: in the first three channels of a pixel with the pixel's change added, rounded and clamped; a fourth stays
 unfoldable pub changedAt : ℕ → (ℕ → Float) → List ℕ → ℕ → ℕ
-changedAt channels delta row p = cond (ltb (p % channels) 3) (roundedByte (add binary32 (value row p) (delta (p / channels)))) (getD row p 0)
+changedAt channels delta row p = cond (ltb (p % channels) 3) (roundedByte (add binary32 (sampleValue row p) (delta (p / channels)))) (getD row p 0)
 
 unfoldable pub changedRow : ℕ → (ℕ → Float) → List ℕ → List ℕ
 changedRow channels delta row = tab (changedAt channels delta row) (length row)

@@ -17,40 +17,37 @@ use Rattle.resample_window.specs.declared.Weight.{Weight}
 use Rattle.resample_window.specs.declared.Weight.the-variants.{Of, Nothing}
 use Rattle.resample_window.specs.Window.{Tap, taps, numbers, weightOf, clampOf, tapsTo, Small}
 use Rattle.resample_window.specs.Signed.{small-fits, numbers-small}
-use Rattle.resample_window.specs.Steps.{passed, taps-none, taps-one}
-use Rattle.resample.specs.Resampled.{total, across, resampled}
-use Rattle.resample.specs.Tables.{noTap, addedAt, total-more, total-same}
+use Rattle.resample_window.specs.Steps.{passed, taps-without, taps-with}
+use Rattle.resample.specs.Resampled.{tapTotal, across, resampled, sumRows}
+use Rattle.resample.specs.Tables.{noTap, addedAt}
+use Rattle.resample.specs.Taps.{total-more, total-same}
 
--- the first n values of the sum
-unfoldable pub sumRows : ℕ → (ℕ → List Float) → List Tap → List Float
-sumRows n row ts = tab (λ x. total zero+ ts (λ k. getD (row k) x nan)) n
-
-pub length-sum : (n : ℕ) (row : ℕ → List Float) (ts : List Tap) → length (sumRows n row ts) ≡ n
+pub length-sumRows : (n : ℕ) (row : ℕ → List Float) (ts : List Tap) → length (sumRows n row ts) ≡ n
 unfolding sumRows
-length-sum n row ts = length-tab _ n
+length-sumRows n row ts = length-tab _ n
 
-pub sum-none : (n : ℕ) (row : ℕ → List Float) → replicate n zero+ ≡ sumRows n row []
-unfolding sumRows total
-sum-none n row = sym (tab-replicate zero+ n)
+pub sumRows-none : (n : ℕ) (row : ℕ → List Float) → replicate n zero+ ≡ sumRows n row []
+unfolding sumRows tapTotal
+sumRows-none n row = sym (tab-replicate zero+ n)
 
-pub sum-more : (n : ℕ) (row : ℕ → List Float) (ts : List Tap) (t : Tap) (sum r : List Float) → sum ≡ sumRows n row ts → r ≡ row (t .from) → tab (addedAt sum (t .weight) r) n ≡ sumRows n row (ts ++ (t ∷ []))
+pub sumRows-more : (n : ℕ) (row : ℕ → List Float) (ts : List Tap) (t : Tap) (sum r : List Float) → sum ≡ sumRows n row ts → r ≡ row (t .from) → tab (addedAt sum (t .weight) r) n ≡ sumRows n row (ts ++ (t ∷ []))
 unfolding sumRows
-sum-more n row ts t sum r e f =
+sumRows-more n row ts t sum r e f =
     tab-same _ _ n
     (λ x X.
     rw (e, f)
-    (ap (λ (z : Float). add binary32 z (mul binary32 (t .weight) (getD (row (t .from)) x nan))) (getD-tab (λ x. total zero+ ts (λ k. getD (row k) x nan)) n x nan X) ∙ total-more zero+ ts t (λ k. getD (row k) x nan)))
+    (ap (λ (z : Float). add binary32 z (mul binary32 (t .weight) (getD (row (t .from)) x nan))) (getD-tab (λ x. tapTotal zero+ ts (λ k. getD (row k) x nan)) n x nan X) ∙ total-more zero+ ts t (λ k. getD (row k) x nan)))
 
-pub sum-all : (w h n m : ℕ) (f : ℕ → ℕ → Float) (row : ℕ → List Float) (y : ℕ) → ((k : ℕ) → row k ≡ tab (across w n (f k)) n) → sumRows n row (taps h m y) ≡ tab (resampled w h n m f y) n
+pub sumRows-all : (w h n m : ℕ) (f : ℕ → ℕ → Float) (row : ℕ → List Float) (y : ℕ) → ((k : ℕ) → row k ≡ tab (across w n (f k)) n) → sumRows n row (taps h m y) ≡ tab (resampled w h n m f y) n
 unfolding sumRows resampled
-sum-all w h n m f row y e = tab-same _ _ n (λ x X. total-same zero+ (taps h m y) _ _ (λ i I. let k = getD (taps h m y) i noTap .from in ap (λ (r : List Float). getD r x nan) (e k) ∙ getD-tab (across w n (f k)) n x nan X))
+sumRows-all w h n m f row y e = tab-same _ _ n (λ x X. total-same zero+ (taps h m y) _ _ (λ i I. let k = getD (taps h m y) i noTap .from in ap (λ (r : List Float). getD r x nan) (e k) ∙ getD-tab (across w n (f k)) n x nan X))
 
 -- ---- a loop over the numbers of a window
 
 module _ (w : Window) (small : Small w) where
   -- how many there are, of the window's own first and last
-  pub counted : (count : ℕ) → count ≡ numbers (toZ w64 (ofZ w64 (w .first))) (toZ w64 (ofZ w64 (w .last))) → count ≡ numbers (w .first) (w .last)
-  counted count e = rw (toZ-ofZ w64 (w .first) (small-fits (w .first) (small .0)), toZ-ofZ w64 (w .last) (small-fits (w .last) (small .1))) at e
+  pub window-counted : (count : ℕ) → count ≡ numbers (toZ w64 (ofZ w64 (w .first))) (toZ w64 (ofZ w64 (w .last))) → count ≡ numbers (w .first) (w .last)
+  window-counted count e = rw (toZ-ofZ w64 (w .first) (small-fits (w .first) (small .0)), toZ-ofZ w64 (w .last) (small-fits (w .last) (small .1))) at e
 
   -- turn k, of the number z that stands k behind the first, and its weight v
   module _ (k : ℕ) (less : k < numbers (w .first) (w .last)) where
@@ -62,9 +59,9 @@ module _ (w : Window) (small : Small w) where
       number = passed z (w .first) k (small .0) turn-small e
 
       pub turn-without : v ≡ Nothing → sum ≡ sumRows n row (tapsTo w src (k + 1))
-      turn-without h = g ∙ ap (sumRows n row) (taps-none w src k (sym (f ∙ ap (weightOf w) number) ∙ h))
+      turn-without h = g ∙ ap (sumRows n row) (taps-without w src k (sym (f ∙ ap (weightOf w) number) ∙ h))
 
       pub turn-with : (q : Float) (i : ℕ) → v ≡ Of q → i ≡ clampOf src (toZ w64 (ofZ w64 z)) → tab (addedAt sum q (row i)) n ≡ sumRows n row (tapsTo w src (k + 1))
       turn-with q i h c =
           let t : Tap = record { from = clampOf src (w .first +ℤ pos k); weight = q } in
-          sum-more n row (tapsTo w src k) t sum (row i) g (ap row (c ∙ ap (clampOf src) number)) ∙ ap (sumRows n row) (sym (taps-one w src k q (sym (f ∙ ap (weightOf w) number) ∙ h)))
+          sumRows-more n row (tapsTo w src k) t sum (row i) g (ap row (c ∙ ap (clampOf src) number)) ∙ ap (sumRows n row) (sym (taps-with w src k q (sym (f ∙ ap (weightOf w) number) ∙ h)))

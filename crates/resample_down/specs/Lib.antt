@@ -1,1 +1,2 @@
 pub mod Narrowing
+pub mod Rows

@@ -10,7 +10,7 @@ ghost use Rattle.seq.specs.Lists.{tab};
 ghost use Rattle.resample_window.specs.Window.{tapsOf, Small};
 ghost use Rattle.resample.specs.Samples.{Sized, narrowRow, planeRow, planeOf};
 ghost use Rattle.resample.specs.Tables.{addedAt};
-ghost use Rattle.resample.specs.Sums.{sumRows};
+ghost use Rattle.resample.specs.Resampled.{sumRows};
 ghost use Rattle.resample_down.specs.Narrowing.{Narrowing};
 use resample::rows::add_row;
 use resample_four::narrow_four;

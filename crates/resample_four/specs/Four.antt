@@ -13,11 +13,11 @@ use Rattle.resample.specs.Samples.{red, green, blue, rowOf, lumaAt, narrowRow}
 -- ---- side by side
 
 -- of four, the one of a row
-unfoldable pub one : {A : Type 0} → A → A → A → A → ℕ → A
-one a b c d zero = a
-one a b c d (suc zero) = b
-one a b c d (suc (suc zero)) = c
-one a b c d (suc (suc (suc n))) = d
+unfoldable pub ofFour : {A : Type 0} → A → A → A → A → ℕ → A
+ofFour a b c d zero = a
+ofFour a b c d (suc zero) = b
+ofFour a b c d (suc (suc zero)) = c
+ofFour a b c d (suc (suc (suc n))) = d
 
 -- what stands in place k, of values given by row and number
 unfoldable pub beside : {A : Type 0} → (ℕ → ℕ → A) → ℕ → A
@@ -29,12 +29,12 @@ lane s l x = getD s (4 * x + l) nan
 
 -- ---- products looked up
 
-abbrev pub weights : List Float
-weights = red ∷ green ∷ blue ∷ []
+abbrev pub lumaWeights : List Float
+lumaWeights = red ∷ green ∷ blue ∷ []
 
 -- what value k mod 256 of channel k / 256 adds to the luma
 unfoldable pub shareAt : ℕ → Float
-shareAt k = mul binary32 (getD weights (k / 256) nan) (ofInt binary32 (pos (k % 256)))
+shareAt k = mul binary32 (getD lumaWeights (k / 256) nan) (ofInt binary32 (pos (k % 256)))
 
 -- ---- four rows of samples
 

@@ -17,8 +17,8 @@ use Rattle.seq.specs.Lists.{tab, filled, lines}
 use Rattle.seq.specs.Lines.{lines-same, length-lines, getD-lines}
 use Rattle.resample.specs.Resampled.{across}
 use Rattle.resample.specs.Samples.{lumaFrom, rowOf, lumaAt, narrowRow}
-use Rattle.resample.specs.Tables.{across-same}
-use Rattle.resample_four.specs.Four.{one, beside, lane, weights, shareAt, cappedAt, fourAt, lumaLine, narrowFour}
+use Rattle.resample.specs.Taps.{across-same}
+use Rattle.resample_four.specs.Four.{ofFour, beside, lane, lumaWeights, shareAt, cappedAt, fourAt, lumaLine, narrowFour}
 
 -- ---- side by side
 
@@ -104,12 +104,12 @@ module _ {A : Type 0} (z : A) (f : ℕ → ℕ → A) where
 
 -- ---- products looked up
 
-looked : (c v : ℕ) → c < 3 → v < 256 → getD (tab shareAt 768) (c * 256 + v) nan ≡ mul binary32 (getD weights c nan) (ofInt binary32 (pos v))
+looked : (c v : ℕ) → c < 3 → v < 256 → getD (tab shareAt 768) (c * 256 + v) nan ≡ mul binary32 (getD lumaWeights c nan) (ofInt binary32 (pos v))
 unfolding shareAt
 looked c v C B =
     let d : (c * 256 + v) / 256 ≡ c = omega arith in
     let m : (c * 256 + v) % 256 ≡ v = omega arith in
-    getD-tab shareAt 768 (c * 256 + v) nan (omega arith) ∙ ap₂ (λ (i j : ℕ). mul binary32 (getD weights i nan) (ofInt binary32 (pos j))) d m
+    getD-tab shareAt 768 (c * 256 + v) nan (omega arith) ∙ ap₂ (λ (i j : ℕ). mul binary32 (getD lumaWeights i nan) (ofInt binary32 (pos j))) d m
 
 pub luma-looked : (shares : List Float) → shares ≡ tab shareAt 768 → (samples : List ℕ) (p : ℕ) → getD samples p 0 < 256 → getD samples (p + 1) 0 < 256 → getD samples (p + 2) 0 < 256
     → add binary32 (add binary32 (getD shares (0 + getD samples p 0) nan) (getD shares (256 + getD samples (p + 1) 0) nan)) (getD shares (512 + getD samples (p + 2) 0) nan) ≡ lumaFrom samples p
@@ -131,8 +131,8 @@ unfolding cappedAt
 capped-own i height h = rw (is-true (ltb i height) (lt→ltb i height h)) refl
 
 -- of four things, by the rows from row 4 g on, the one of row l
-one-row : {A : Type 0} (f : ℕ → A) (g height l : ℕ) → l < 4 → one (f (cappedAt (4 * g) height)) (f (cappedAt (4 * g + 1) height)) (f (cappedAt (4 * g + 2) height)) (f (cappedAt (4 * g + 3) height)) l ≡ f (cappedAt (4 * g + l) height)
-unfolding one
+one-row : {A : Type 0} (f : ℕ → A) (g height l : ℕ) → l < 4 → ofFour (f (cappedAt (4 * g) height)) (f (cappedAt (4 * g + 1) height)) (f (cappedAt (4 * g + 2) height)) (f (cappedAt (4 * g + 3) height)) l ≡ f (cappedAt (4 * g + l) height)
+unfolding ofFour
 one-row f g height zero h = let e : 4 * g + 0 ≡ 4 * g = omega arith in rw e refl
 one-row f g height (suc zero) h = refl
 one-row f g height (suc (suc zero)) h = refl
@@ -150,7 +150,7 @@ part-long n samples a h = let m : a + n - a ≡ n = omega arith in rw m (length-
 module _ (width height channels : ℕ) (samples : List ℕ) (g : ℕ) (some : 0 < width) where
   -- the lumas of the four rows are those of the picture's
   pub line-found : (a b c d : List ℕ) (line : List Float) → let n = width * channels in a ≡ rowOf n samples (cappedAt (4 * g) height) → b ≡ rowOf n samples (cappedAt (4 * g + 1) height) → c ≡ rowOf n samples (cappedAt (4 * g + 2) height) → d ≡ rowOf n samples (cappedAt (4 * g + 3) height)
-      → filled (beside (λ l. lumaAt channels (one a b c d l))) (4 * width) line ≡ lumaLine width height channels samples g line
+      → filled (beside (λ l. lumaAt channels (ofFour a b c d l))) (4 * width) line ≡ lumaLine width height channels samples g line
   unfolding lumaLine filled beside
   line-found a b c d line A B C D =
       ap (λ (xs : List Float). xs ++ drop (4 * width) line)

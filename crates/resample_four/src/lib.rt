@@ -9,7 +9,7 @@ ghost use Rattle.seq.specs.Lists.{tab, filled, lines};
 ghost use Rattle.resample.specs.Resampled.{across};
 ghost use Rattle.resample.specs.Samples.{Sized, lumaFrom, lumaAt};
 ghost use Rattle.resample.specs.Tables.{Tables};
-ghost use Rattle.resample_four.specs.Four.{beside, one, lane, shareAt, cappedAt, lumaLine, narrowFour};
+ghost use Rattle.resample_four.specs.Four.{beside, ofFour, lane, shareAt, cappedAt, lumaLine, narrowFour};
 
 // What each byte adds to the luma as a red sample, then as a green one, then as a blue one.
 pub fn shares(out: &mut [f32])
@@ -81,7 +81,7 @@ fn luma_four(
     line: &mut [f32],
 )
     requires { ⌜ (now shares ≡ tab shareAt 768) × (3 ≤ channels) × (4 * width ≤ length (now line)) × (length (now a) ≡ width * channels) × (length (now b) ≡ width * channels) × (length (now c) ≡ width * channels) × (length (now d) ≡ width * channels) ⌝ }
-    ensures { λ _. ⌜ now (line .exit) ≡ filled (beside (λ l. lumaAt channels (one (now (a .entry)) (now (b .entry)) (now (c .entry)) (now (d .entry)) l))) (4 * width) (now (line .entry)) ⌝ }
+    ensures { λ _. ⌜ now (line .exit) ≡ filled (beside (λ l. lumaAt channels (ofFour (now (a .entry)) (now (b .entry)) (now (c .entry)) (now (d .entry)) l))) (4 * width) (now (line .entry)) ⌝ }
 {
     for x in 0..width {
         let p = x * channels;

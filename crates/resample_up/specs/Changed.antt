@@ -70,8 +70,8 @@ module _ (width height channels : ℕ) (change : List Float) (samples : List ℕ
     before : (m r : ℕ) → r < m → r * (width * channels) + width * channels ≤ m * (width * channels)
     before m r h = omega (arith, row-fits r (width * channels) m h, mul-comm (width * channels) m)
 
-    pub rows-length : (m : ℕ) → m ≤ height → length (changedRows width height channels change samples m) ≡ length samples
-    rows-length m h = length-pasted (width * channels) (λ r. r * (width * channels)) (changedLine width height channels change samples) changed-length samples m (λ r k. fits r (omega arith))
+    pub changed-rows-length : (m : ℕ) → m ≤ height → length (changedRows width height channels change samples m) ≡ length samples
+    changed-rows-length m h = length-pasted (width * channels) (λ r. r * (width * channels)) (changedLine width height channels change samples) changed-length samples m (λ r k. fits r (omega arith))
 
     -- the next row is as it was
     pub next-row : (m : ℕ) → m < height → rowOf (width * channels) (changedRows width height channels change samples m) m ≡ rowOf (width * channels) samples m
@@ -79,9 +79,9 @@ module _ (width height channels : ℕ) (change : List Float) (samples : List ℕ
     next-row m h = pasted-rest (width * channels) (λ r. r * (width * channels)) (changedLine width height channels change samples) changed-length samples 0 m (m * (width * channels)) (width * channels) (before m) (fits m h)
 
     -- and is changed
-    pub rows-more : (m : ℕ) (was row : List ℕ) (delta : List Float) → m < height → was ≡ changedRows width height channels change samples m → delta ≡ changeRow width height change m → row ≡ changedRow channels (λ x. getD delta x nan) (rowOf (width * channels) was m)
+    pub changed-rows-more : (m : ℕ) (was row : List ℕ) (delta : List Float) → m < height → was ≡ changedRows width height channels change samples m → delta ≡ changeRow width height change m → row ≡ changedRow channels (λ x. getD delta x nan) (rowOf (width * channels) was m)
         → onPart (m * (width * channels)) (width * channels) (λ (x : List ℕ). row) was ≡ changedRows width height channels change samples (m + 1)
-    rows-more m was row delta h e f g =
+    changed-rows-more m was row delta h e f g =
         let is : row ≡ changedLine width height channels change samples m = (rw (e, f, next-row m h) at g) ∙ line-is m (fits m h) in
         let long : length row ≡ width * channels = ap length is ∙ changed-length m in
         part-pasted (m * (width * channels)) (width * channels) row was long ∙ (rw (is, e) (pasted-more (width * channels) (λ r. r * (width * channels)) (changedLine width height channels change samples) m samples))

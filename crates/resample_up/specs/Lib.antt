@@ -1,4 +1,5 @@
 pub mod Widening
+pub mod Rows
 pub mod Written
 pub mod Changed
 pub mod Alpha

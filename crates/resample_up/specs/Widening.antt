@@ -1,34 +1,14 @@
--- What every function between a change of the plane and the samples asks for, and leaves so.
-use mathlib.Core.Path.{_≡_, refl}
+-- What every function between a change of the plane and the samples asks for, and leaves so. Definitions only.
+use mathlib.Core.Path.{_≡_}
 use mathlib.Core.List.{List}
 use Prim.Native.Nat.{ℕ}
-use lib.ListN.{length, getD}
-use lib.Ieee.{Float, nan}
-use Rattle.seq.specs.Tab.{length-tab}
-use Rattle.resample_window.specs.Window.{taps}
-use Rattle.resample.specs.Samples.{rowOf, wideRow, changeRow}
-use Rattle.resample.specs.Tables.{Tables}
-use Rattle.resample.specs.Sums.{sumRows, sum-all}
-use Rattle.resample.specs.Kept.{Kept}
+use lib.ListN.{length}
+use lib.Ieee.{Float}
+use Rattle.resample.specs.Samples.{wideRow}
+use Rattle.resample.specs.Tables.{Tables, KeptRows}
 
 -- a change of the plane, the taps that bring its rows to the width, and rows of it that are kept
 pub record Widening (width : ℕ) (change : List Float) (offsets index : List ℕ) (weight : List Float) (held : List ℕ) (rows : List Float) : Type 0 where
   pub plane : length change ≡ 65536
   pub tables : Tables 256 width offsets index weight
-  pub kept : Kept (wideRow width change) width 8192 2 held rows
-
--- ---- how long the rows are
-
-pub wide-length : (width : ℕ) (change : List Float) (k : ℕ) → length (wideRow width change k) ≡ width
-unfolding wideRow
-wide-length width change k = length-tab _ width
-
-pub change-length : (width height : ℕ) (change : List Float) (y : ℕ) → length (changeRow width height change y) ≡ width
-unfolding changeRow
-change-length width height change y = length-tab _ width
-
--- ---- a row of the change
-
-pub change-of : (width height : ℕ) (change : List Float) (y : ℕ) → sumRows width (wideRow width change) (taps 256 height y) ≡ changeRow width height change y
-unfolding changeRow wideRow
-change-of width height change y = sum-all 256 256 width height (λ k i. getD (rowOf 256 change k) i nan) (wideRow width change) y (λ k. refl)
+  pub kept : KeptRows (wideRow width change) width 8192 2 held rows

@@ -15,7 +15,7 @@ use lib.Ieee.Bits.{is-true, is-false}
 use Rattle.seq.specs.Tab.{filled-more, filled-all}
 use Rattle.seq.specs.Lists.{tab, filled}
 use Rattle.float.specs.Calls.{roundedByte}
-use Rattle.resample.specs.Samples.{changedAt, value, rowOf, wideRow, changedRow}
+use Rattle.resample.specs.Samples.{changedAt, sampleValue, rowOf, wideRow, changedRow}
 use Rattle.resample.specs.Resampled.{across}
 use Rattle.resample.specs.Pixels.{filled-at, length-row}
 
@@ -41,7 +41,7 @@ module _ (channels : ℕ) (delta : ℕ → Float) (d : List ℕ) (x k : ℕ) (le
       let e : x + k / channels ≡ x = omega (arith, div-eq-of-lt less) in
       mul-add-div-right some x k ∙ e
 
-  first-three : k < 3 → roundedByte (add binary32 (value d (x * channels + k)) (delta x)) ≡ changedAt channels delta d (x * channels + k)
+  first-three : k < 3 → roundedByte (add binary32 (sampleValue d (x * channels + k)) (delta x)) ≡ changedAt channels delta d (x * channels + k)
   unfolding changedAt
   first-three h = rw (channel, pixel, is-true (ltb k 3) (lt→ltb k 3 h)) refl
 
@@ -50,7 +50,7 @@ module _ (channels : ℕ) (delta : ℕ → Float) (d : List ℕ) (x k : ℕ) (le
   fourth h = rw (channel, is-false (ltb k 3) (le→nltb k 3 h)) refl
 
   -- one sample more: p is sample k of pixel x
-  sample-more : (row : List ℕ) (p q v : ℕ) → k < 3 → p ≡ x * channels + k → q ≡ p + 1 → p < length d → row ≡ filled (changedAt channels delta d) p d → v ≡ roundedByte (add binary32 (value row p) (delta x)) → set row p v ≡ filled (changedAt channels delta d) q d
+  sample-more : (row : List ℕ) (p q v : ℕ) → k < 3 → p ≡ x * channels + k → q ≡ p + 1 → p < length d → row ≡ filled (changedAt channels delta d) p d → v ≡ roundedByte (add binary32 (sampleValue row p) (delta x)) → set row p v ≡ filled (changedAt channels delta d) q d
   sample-more row p q v h i j l r e =
       let was : getD row p 0 ≡ getD d p 0 = ap (λ (s : List ℕ). getD s p 0) r ∙ filled-at (changedAt channels delta d) p d 0 in
       let is : v ≡ changedAt channels delta d p = rw (e, was, i) (first-three h) in
@@ -72,9 +72,9 @@ module _ (channels : ℕ) (delta : ℕ → Float) (d : List ℕ) (x : ℕ) (thre
 
   -- one pixel more
   pub pixel-more : (row : List ℕ) (u v w : ℕ) → row ≡ filled (changedAt channels delta d) (x * channels) d
-      → u ≡ roundedByte (add binary32 (value row (x * channels)) (delta x))
-      → v ≡ roundedByte (add binary32 (value (set row (x * channels) u) (x * channels + 1)) (delta x))
-      → w ≡ roundedByte (add binary32 (value (set (set row (x * channels) u) (x * channels + 1) v) (x * channels + 2)) (delta x))
+      → u ≡ roundedByte (add binary32 (sampleValue row (x * channels)) (delta x))
+      → v ≡ roundedByte (add binary32 (sampleValue (set row (x * channels) u) (x * channels + 1)) (delta x))
+      → w ≡ roundedByte (add binary32 (sampleValue (set (set row (x * channels) u) (x * channels + 1) v) (x * channels + 2)) (delta x))
       → set (set (set row (x * channels) u) (x * channels + 1) v) (x * channels + 2) w ≡ filled (changedAt channels delta d) ((x + 1) * channels) d
   pixel-more row u v w r e f g =
       let p = x * channels in

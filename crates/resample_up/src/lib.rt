@@ -12,7 +12,7 @@ ghost use Rattle.float.specs.Calls.{roundedByte};
 ghost use Rattle.resample_window.specs.Window.{tapsOf, Small};
 ghost use Rattle.resample.specs.Samples.{Sized, wideRow, changeRow, changedRow, changedOf};
 ghost use Rattle.resample.specs.Tables.{Tables, addedAt};
-ghost use Rattle.resample.specs.Sums.{sumRows};
+ghost use Rattle.resample.specs.Resampled.{sumRows};
 ghost use Rattle.resample_up.specs.Widening.{Widening};
 use float::round_to_u8;
 use resample::rows::add_row;

@@ -18,7 +18,7 @@ use mir.ValLaws.{toZ-ofZ}
 use Rattle.float.specs.Base.{zero+}
 use Rattle.resample_window.specs.declared.Window.{Window}
 use Rattle.resample_window.specs.declared.Weight.the-variants.{Of, Nothing}
-use Rattle.resample_window.specs.Window.{Tap, tentOf, sumOf, weightOf, clampOf, tapOf, tapsTo}
+use Rattle.resample_window.specs.Window.{Tap, tentOf, tentSum, weightOf, clampOf, tapOf, tapsTo}
 use Rattle.resample_window.specs.Signed.{sum-fits, small-fits}
 
 -- a number that a call gave, as the next call is passed it
@@ -28,24 +28,24 @@ passed z first k a b e = rw (e, toZ-ofZ w64 first (small-fits first a)) (toZ-ofZ
 -- ---- the sum
 
 module _ (w : Window) (n : ℕ) (t : Float) (h : t ≡ tentOf w (w .first +ℤ pos n)) where
-  pub sum-with : (s : Float) → lt zero+ t ≡ true → s ≡ sumOf w n → add binary64 s t ≡ sumOf w (n + 1)
-  unfolding sumOf
+  pub sum-with : (s : Float) → lt zero+ t ≡ true → s ≡ tentSum w n → add binary64 s t ≡ tentSum w (n + 1)
+  unfolding tentSum
   sum-with s p e = rw (add-one, ← h, p, e) refl
 
-  pub sum-without : (s : Float) → lt zero+ t ≡ false → s ≡ sumOf w n → s ≡ sumOf w (n + 1)
-  unfolding sumOf
+  pub sum-without : (s : Float) → lt zero+ t ≡ false → s ≡ tentSum w n → s ≡ tentSum w (n + 1)
+  unfolding tentSum
   sum-without s p e = rw (add-one, ← h, p, e) refl
 
 -- ---- the taps
 
 module _ (w : Window) (src n : ℕ) where
-  pub taps-none : weightOf w (w .first +ℤ pos n) ≡ Nothing → tapsTo w src n ≡ tapsTo w src (n + 1)
+  pub taps-without : weightOf w (w .first +ℤ pos n) ≡ Nothing → tapsTo w src n ≡ tapsTo w src (n + 1)
   unfolding tapsTo
-  taps-none e = rw (add-one, e) (sym (append-nil (tapsTo w src n)))
+  taps-without e = rw (add-one, e) (sym (append-nil (tapsTo w src n)))
 
-  pub taps-one : (q : Float) → weightOf w (w .first +ℤ pos n) ≡ Of q → tapsTo w src (n + 1) ≡ tapsTo w src n ++ (record { from = clampOf src (w .first +ℤ pos n); weight = q } ∷ [])
+  pub taps-with : (q : Float) → weightOf w (w .first +ℤ pos n) ≡ Of q → tapsTo w src (n + 1) ≡ tapsTo w src n ++ (record { from = clampOf src (w .first +ℤ pos n); weight = q } ∷ [])
   unfolding tapsTo
-  taps-one q e = rw (add-one, e) refl
+  taps-with q e = rw (add-one, e) refl
 
 pub taps-grow : (w : Window) (src n m : ℕ) → n ≤ m → length (tapsTo w src n) ≤ length (tapsTo w src m)
 unfolding tapsTo
@@ -76,7 +76,7 @@ taps-stay w src n (suc m) z k h l =
 pub tap-at : (w : Window) (src n m : ℕ) (q : Float) (z : Tap) → n < m → weightOf w (w .first +ℤ pos n) ≡ Of q
     → getD (tapsTo w src m) (length (tapsTo w src n)) z ≡ record { from = clampOf src (w .first +ℤ pos n); weight = q }
 tap-at w src n m q z h e =
-    let more = taps-one w src n q e in
+    let more = taps-with w src n q e in
     let t : Tap = record { from = clampOf src (w .first +ℤ pos n); weight = q } in
     let one : length (tapsTo w src (n + 1)) ≡ length (tapsTo w src n) + 1 = ap length more ∙ length-append (tapsTo w src n) (t ∷ []) in
     taps-stay w src (n + 1) m z (length (tapsTo w src n)) (omega arith) (omega arith)
@@ -85,7 +85,7 @@ tap-at w src n m q z h e =
 -- and then there is room for it where there is room for all
 pub tap-room : (w : Window) (src n m : ℕ) (q : Float) → n < m → weightOf w (w .first +ℤ pos n) ≡ Of q → length (tapsTo w src n) < length (tapsTo w src m)
 tap-room w src n m q h e =
-    let more = taps-one w src n q e in
+    let more = taps-with w src n q e in
     let t : Tap = record { from = clampOf src (w .first +ℤ pos n); weight = q } in
     let one : length (tapsTo w src (n + 1)) ≡ length (tapsTo w src n) + 1 = ap length more ∙ length-append (tapsTo w src n) (t ∷ []) in
     omega (arith, taps-grow w src (n + 1) m (omega arith))

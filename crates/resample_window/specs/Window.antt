@@ -7,7 +7,7 @@ use lib.IntN.{ℤ, pos, negsuc, natAbs, _+ℤ_, _-ℤ_}
 use lib.Signed.{ltZ, mag}
 use lib.Ieee.{Float, binary32, binary64, ofInt, toSigned, add, sub, mul, div, lt}
 use Rattle.float.specs.Base.{zero+, two-to, half}
-use Rattle.float.specs.Calls.{floor, ceil, narrow, absolute, most}
+use Rattle.float.specs.Calls.{floor, ceil, narrow, absolute, larger}
 use Rattle.resample_window.specs.declared.Window.{Window}
 use Rattle.resample_window.specs.declared.Weight.{Weight}
 use Rattle.resample_window.specs.declared.Weight.the-variants.{Of, Nothing}
@@ -25,9 +25,9 @@ unfoldable pub weightOf : Window → ℤ → Weight
 weightOf w j = cond (lt zero+ (tentOf w j)) (Of (div binary32 (narrow (tentOf w j)) (narrow (w .sum)))) Nothing
 
 -- the sum of the positive tents of n numbers from `first` on, in rising order
-unfoldable pub sumOf : Window → ℕ → Float
-sumOf w zero = zero+
-sumOf w (suc n) = cond (lt zero+ (tentOf w (w .first +ℤ pos n))) (add binary64 (sumOf w n) (tentOf w (w .first +ℤ pos n))) (sumOf w n)
+unfoldable pub tentSum : Window → ℕ → Float
+tentSum w zero = zero+
+tentSum w (suc n) = cond (lt zero+ (tentOf w (w .first +ℤ pos n))) (add binary64 (tentSum w n) (tentOf w (w .first +ℤ pos n))) (tentSum w n)
 
 -- how many numbers there are from a to b
 unfoldable pub numbers : ℤ → ℤ → ℕ
@@ -43,7 +43,7 @@ unfoldable pub centerOf : ℕ → ℕ → ℕ → Float
 centerOf src dst i = sub binary64 (mul binary64 (add binary64 (ofInt binary64 (pos i)) half) (scaleOf src dst)) half
 
 unfoldable pub supportOf : ℕ → ℕ → Float
-supportOf src dst = most (scaleOf src dst) (two-to 0)
+supportOf src dst = larger (scaleOf src dst) (two-to 0)
 
 abbrev pub unsummed : Float → Float → Window
 unsummed center support =
@@ -55,26 +55,26 @@ unsummed center support =
       sum = zero+;
     }
 
-abbrev pub summed : Window → Window
-summed w = record { first = w .first; last = w .last; center = w .center; support = w .support; sum = sumOf w (numbers (w .first) (w .last)) }
+abbrev pub withSum : Window → Window
+withSum w = record { first = w .first; last = w .last; center = w .center; support = w .support; sum = tentSum w (numbers (w .first) (w .last)) }
 
 -- no number
 abbrev pub empty : Window
 empty = record { first = pos 0; last = negsuc 0; center = zero+; support = two-to 0; sum = zero+ }
 
 -- sides are 1 to 8,192
-abbrev pub longest : ℕ
-longest = 8192
+abbrev pub longestSide : ℕ
+longestSide = 8192
 
-abbrev pub sized : ℕ → Bool
-sized n = ltb 0 n && leb n longest
+abbrev pub isSide : ℕ → Bool
+isSide n = ltb 0 n && leb n longestSide
 
 abbrev pub hasWindow : ℕ → ℕ → ℕ → Bool
-hasWindow src dst i = sized src && sized dst && ltb i dst
+hasWindow src dst i = isSide src && isSide dst && ltb i dst
 
 -- a size that no side has, and an output sample that is not there, have the window without a number
 unfoldable pub windowOf : ℕ → ℕ → ℕ → Window
-windowOf src dst i = cond (hasWindow src dst i) (summed (unsummed (centerOf src dst i) (supportOf src dst))) empty
+windowOf src dst i = cond (hasWindow src dst i) (withSum (unsummed (centerOf src dst i) (supportOf src dst))) empty
 
 -- ---- its taps
 
@@ -110,11 +110,11 @@ Small w = (mag (w .first) < 2 ^ 30) × (mag (w .last) < 2 ^ 30)
 
 -- ---- the taps of all output samples, one behind the other
 
-abbrev pub sources : List Tap → List ℕ
-sources ts = map (λ t. t .from) ts
+abbrev pub tapSources : List Tap → List ℕ
+tapSources ts = map (λ t. t .from) ts
 
-abbrev pub weights : List Tap → List Float
-weights ts = map (λ t. t .weight) ts
+abbrev pub tapWeights : List Tap → List Float
+tapWeights ts = map (λ t. t .weight) ts
 
 -- of output samples 0 to n - 1
 unfoldable pub allTaps : ℕ → ℕ → ℕ → List Tap

@@ -8,7 +8,7 @@ ghost use lib.ListN.{length};
 ghost use lib.Seq.{paste};
 ghost use lib.Signed.{mag};
 ghost use Rattle.seq.specs.Lists.{filled};
-ghost use Rattle.resample_window.specs.Window.{tentOf, weightOf, sumOf, numbers, sized, hasWindow, empty, unsummed, summed, windowOf, clampOf, tapsOf, Small, start, sources, weights, allTaps, onto};
+ghost use Rattle.resample_window.specs.Window.{tentOf, weightOf, tentSum, numbers, isSide, hasWindow, empty, unsummed, withSum, windowOf, clampOf, tapsOf, Small, start, tapSources, tapWeights, allTaps, onto};
 use float::abs_f64;
 use float::ceil_f64_to_i64;
 use float::floor_f64_to_i64;
@@ -66,7 +66,7 @@ impl Window {
 
     fn sum_tents(self) -> f64
         requires { ⌜ Small self ⌝ }
-        ensures { λ r. ⌜ r ≡ sumOf self (numbers (self .first) (self .last)) ⌝ }
+        ensures { λ r. ⌜ r ≡ tentSum self (numbers (self .first) (self .last)) ⌝ }
     {
         let first = self.first;
         let last = self.last;
@@ -83,7 +83,7 @@ impl Window {
 
     fn summed(self) -> Window
         requires { ⌜ Small self ⌝ }
-        ensures { λ r. ⌜ r ≡ summed self ⌝ }
+        ensures { λ r. ⌜ r ≡ withSum self ⌝ }
     {
         Window {
             first: self.first,
@@ -115,7 +115,7 @@ pub fn nth(first: i64, k: usize) -> i64
 }
 
 fn sized(n: usize) -> bool
-    ensures { λ r. ⌜ r ≡ sized n ⌝ }
+    ensures { λ r. ⌜ r ≡ isSide n ⌝ }
 {
     if 0 < n { n <= 8192 } else { false }
 }
@@ -179,8 +179,8 @@ pub fn clamp(j: i64, src: usize) -> usize
 fn push(w: Window, src: usize, n: usize, index: &mut [u16], weight: &mut [f32]) -> usize
     requires { ⌜ Small w × (0 < src) × (src ≤ 8192) × (n + length (tapsOf w src) ≤ length (now index)) × (length (now weight) ≡ length (now index)) ⌝ }
     ensures place { λ r. ⌜ r ≡ n + length (tapsOf w src) ⌝ }
-    ensures from { λ _. ⌜ now (index .exit) ≡ paste (now (index .entry)) n (sources (tapsOf w src)) (length (tapsOf w src)) ⌝ }
-    ensures with { λ _. ⌜ now (weight .exit) ≡ paste (now (weight .entry)) n (weights (tapsOf w src)) (length (tapsOf w src)) ⌝ }
+    ensures from { λ _. ⌜ now (index .exit) ≡ paste (now (index .entry)) n (tapSources (tapsOf w src)) (length (tapsOf w src)) ⌝ }
+    ensures with { λ _. ⌜ now (weight .exit) ≡ paste (now (weight .entry)) n (tapWeights (tapsOf w src)) (length (tapsOf w src)) ⌝ }
 {
     let first = w.first;
     let last = w.last;
@@ -203,8 +203,8 @@ fn push(w: Window, src: usize, n: usize, index: &mut [u16], weight: &mut [f32]) 
 pub fn taps(src: usize, dst: usize, offsets: &mut [u16], index: &mut [u16], weight: &mut [f32])
     requires { ⌜ (0 < src) × (src ≤ 8192) × (dst ≤ 8192) × (dst < length (now offsets)) × (start src dst dst ≤ length (now index)) × (length (now weight) ≡ length (now index)) × (length (now index) ≤ 16384) ⌝ }
     ensures bounds { λ _. ⌜ now (offsets .exit) ≡ filled (start src dst) (dst + 1) (now (offsets .entry)) ⌝ }
-    ensures from { λ _. ⌜ now (index .exit) ≡ onto (sources (allTaps src dst dst)) (now (index .entry)) ⌝ }
-    ensures with { λ _. ⌜ now (weight .exit) ≡ onto (weights (allTaps src dst dst)) (now (weight .entry)) ⌝ }
+    ensures from { λ _. ⌜ now (index .exit) ≡ onto (tapSources (allTaps src dst dst)) (now (index .entry)) ⌝ }
+    ensures with { λ _. ⌜ now (weight .exit) ≡ onto (tapWeights (allTaps src dst dst)) (now (weight .entry)) ⌝ }
 {
     let mut n = 0usize;
     for i in 0..dst {

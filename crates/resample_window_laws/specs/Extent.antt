@@ -17,13 +17,14 @@ use lib.Ieee.Scale.{grid}
 use Rattle.float.specs.Base.{half}
 use Rattle.float.specs.Fraction.{value-scale, add-at}
 use Rattle.float_laws.specs.Product.{mul-value-at}
-use Rattle.float_laws.specs.Exact.{Is, is-neg, abs-neg}
+use Rattle.float_laws.specs.Values.{Is, Within}
+use Rattle.float_laws.specs.Exact.{is-neg, abs-neg}
 use Rattle.float.specs.Rounding.{exact-at, round-shape}
 use Rattle.float_laws.specs.AddError.{dist, Near, add-near, size-within}
-use Rattle.float_laws.specs.Bounds.{Within, holds-scaled, holds-whole, round-within, within-more, add-within, sub-within, mul-within}
+use Rattle.float_laws.specs.Bounds.{holds-scaled, holds-whole, round-within, within-more, add-within, sub-within, mul-within}
 use Rattle.float_laws.specs.Floors.{floor-below, ceil-above}
 use Rattle.resample_window.specs.declared.Window.{Window}
-use Rattle.resample_window.specs.Window.{scaleOf, centerOf, supportOf, unsummed, longest, windowOf, numbers}
+use Rattle.resample_window.specs.Window.{scaleOf, centerOf, supportOf, unsummed, longestSide, windowOf, numbers}
 use Rattle.resample_window.specs.Signed.{diff-sign}
 use Rattle.resample_window.specs.Range.{whole-value, scale-is, scale-within, longest-times, center-within, support-within, window-cases, span}
 use Rattle.resample_window_laws.specs.Support.{natAbs-add}
@@ -85,7 +86,7 @@ near-parts a z d h =
 -- ---- the centre, one rounding of product - 1/2
 
 -- i + 0.5 is exact
-middle-is : (i : ℕ) → i < longest → add binary64 (ofInt binary64 (pos i)) half ≡ round binary64 false (i * 2 + 1) 2
+middle-is : (i : ℕ) → i < longestSide → add binary64 (ofInt binary64 (pos i)) half ≡ round binary64 false (i * 2 + 1) 2
 unfolding sum
 middle-is i h = add-at binary64 (ofInt binary64 (pos i)) half false false (i * 2) 1 2 (zero-lt-suc 1) (value-scale (ofInt binary64 (pos i)) false i 1 2 (whole-value i (omega arith))) (refl, refl)
 
@@ -96,7 +97,7 @@ finer = 2 ^ 27
 upper : ℕ → ℕ → ℕ
 upper src dst = (src * finer + dst - 1) / dst
 
-product-within : (src dst i : ℕ) → 0 < src → src ≤ longest → 0 < dst → dst ≤ longest → i < dst → Within (mul binary64 (add binary64 (ofInt binary64 (pos i)) half) (scaleOf src dst)) src 1
+product-within : (src dst i : ℕ) → 0 < src → src ≤ longestSide → 0 < dst → dst ≤ longestSide → i < dst → Within (mul binary64 (add binary64 (ofInt binary64 (pos i)) half) (scaleOf src dst)) src 1
 unfolding upper
 product-within src dst i A B C D I =
     let n = upper src dst in
@@ -139,11 +140,11 @@ round-upto y n d b e w =
           record { size = grid binary64 n d; value = has; most = size-within binary64 y (pos (grid binary64 n d)) b (record { sign = false; size = grid binary64 n d; value = has; whole = refl }) w }
     ]
 
-product-upto : (src dst i : ℕ) → 0 < src → src ≤ longest → 0 < dst → dst ≤ longest → i < dst → Upto (mul binary64 (add binary64 (ofInt binary64 (pos i)) half) (scaleOf src dst)) src
+product-upto : (src dst i : ℕ) → 0 < src → src ≤ longestSide → 0 < dst → dst ≤ longestSide → i < dst → Upto (mul binary64 (add binary64 (ofInt binary64 (pos i)) half) (scaleOf src dst)) src
 product-upto src dst i A B C D I =
     let x = add binary64 (ofInt binary64 (pos i)) half in
     let X : HasValue x false (i * 2 + 1) 2 = subst (λ (z : Float). HasValue z false (i * 2 + 1) 2) (sym (middle-is i (omega arith))) (exact-at binary64 false (i * 2 + 1) 1 (lit≤ tt) (omega arith)) in
-    let s = round-upto (scaleOf src dst) src dst longest (scale-is src dst B C D) (scale-within src dst longest B C D (holds-whole binary64 longest (lit≤ tt)) (longest-times src dst B C)) in
+    let s = round-upto (scaleOf src dst) src dst longestSide (scale-is src dst B C D) (scale-within src dst longestSide B C D (holds-whole binary64 longestSide (lit≤ tt)) (longest-times src dst B C)) in
     round-upto (mul binary64 x (scaleOf src dst)) ((i * 2 + 1) * s .size) (2 * unit) src
     (mul-value-at binary64 x (scaleOf src dst) false false (i * 2 + 1) 2 (s .size) unit (zero-lt-suc 1) (pow-pos (low binary64)) X (s .value)) (product-within src dst i A B C D I)
 
@@ -226,7 +227,7 @@ record Lies (first last : ℤ) (src r : ℕ) : Type 0 where
   pub before : over last ≤ under last + (src - 1 + r)
   pub wide : over last + under first ≤ over first + under last + 2 * r
 
-lies : (src dst i : ℕ) → 0 < src → src ≤ longest → 0 < dst → dst ≤ longest → i < dst → Lies (unsummed (centerOf src dst i) (supportOf src dst) .first) (unsummed (centerOf src dst i) (supportOf src dst) .last) src (reach src dst)
+lies : (src dst i : ℕ) → 0 < src → src ≤ longestSide → 0 < dst → dst ≤ longestSide → i < dst → Lies (unsummed (centerOf src dst i) (supportOf src dst) .first) (unsummed (centerOf src dst i) (supportOf src dst) .last) src (reach src dst)
 unfolding centerOf sub
 lies src dst i A B C D I =
     let r = reach src dst in
@@ -242,11 +243,11 @@ lies src dst i A B C D I =
     let z = centre .at in
     let c-in = center-within src dst i B C D I in
     let s-in = support-within src dst B C D in
-    let z-room : natAbs z + S ≤ span * unit = both (natAbs z) S (2 ^ 14 + 1) longest unit (size-within binary64 c z (2 ^ 14 + 1) (centre .value) c-in) (le-trans (support .greatest) (mul-le-mul-right unit (le-trans (reach-top src dst C) B))) in
+    let z-room : natAbs z + S ≤ span * unit = both (natAbs z) S (2 ^ 14 + 1) longestSide unit (size-within binary64 c z (2 ^ 14 + 1) (centre .value) c-in) (le-trans (support .greatest) (mul-le-mul-right unit (le-trans (reach-top src dst C) B))) in
     let low-sum : Near binary64 (sub binary64 c s) (z +ℤ negℤ (pos S)) slack = sum-near c (neg s) z (negℤ (pos S)) span (centre .value) (is-neg s-is) (subst (λ (n : ℕ). natAbs z + n ≤ span * unit) (sym (abs-neg S)) z-room) (lit< tt) in
     let high-sum : Near binary64 (add binary64 c s) (z +ℤ pos S) slack = sum-near c s z (pos S) span (centre .value) s-is z-room (lit< tt) in
-    let f = ceil-above binary64 63 (sub binary64 c s) span unit (low-sum .at) (sub-fits binary64 c s) (sub-within binary64 c s (2 ^ 14 + 1) longest 1 (zero-lt-suc 0) (holds-whole binary64 span (lit≤ tt)) c-in s-in) (lit< tt) (low-sum .value) in
-    let l = floor-below binary64 63 (add binary64 c s) span unit (high-sum .at) (add-fits binary64 c s) (add-within binary64 c s (2 ^ 14 + 1) longest 1 (zero-lt-suc 0) (holds-whole binary64 span (lit≤ tt)) c-in s-in) (lit< tt) (high-sum .value) in
+    let f = ceil-above binary64 63 (sub binary64 c s) span unit (low-sum .at) (sub-fits binary64 c s) (sub-within binary64 c s (2 ^ 14 + 1) longestSide 1 (zero-lt-suc 0) (holds-whole binary64 span (lit≤ tt)) c-in s-in) (lit< tt) (low-sum .value) in
+    let l = floor-below binary64 63 (add binary64 c s) span unit (high-sum .at) (add-fits binary64 c s) (add-within binary64 c s (2 ^ 14 + 1) longestSide 1 (zero-lt-suc 0) (holds-whole binary64 span (lit≤ tt)) c-in s-in) (lit< tt) (high-sum .value) in
     record {
       after = first-after unit halfUnit slack r refl (lit< tt) (product .size) S z (low-sum .at) (w .first) (support .greatest) (centre .off) (low-sum .off) f;
       before = last-before unit halfUnit slack r refl (lit< tt) src (product .size) S z (high-sum .at) (w .last) A (product .most) (support .greatest) (centre .off) (high-sum .off) l;

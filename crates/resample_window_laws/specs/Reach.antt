@@ -20,20 +20,21 @@ use lib.Ieee.Fits.{and-r, down-pos}
 use lib.Ieee.Order.{round-mono}
 use lib.Ieee.Scale.{grid}
 use Rattle.float.specs.Base.{zero+, two-to}
-use Rattle.float.specs.Known.{yes}
+use Rattle.float.specs.Known.{known}
 use Rattle.float.specs.Calls.{absolute}
 use Rattle.float.specs.Fraction.{value-scale, neg-value, sub-at, at-most}
 use Rattle.float_laws.specs.Product.{div-value-at}
 use Rattle.float.specs.Rounding.{neg-round, round-shape}
-use Rattle.float_laws.specs.Exact.{Is, abs-signed, is-neg, every-finite}
+use Rattle.float_laws.specs.Values.{Is, Within, Holds}
+use Rattle.float_laws.specs.Exact.{abs-signed, is-neg, every-finite}
 use Rattle.float_laws.specs.AddError.{add-once}
-use Rattle.float_laws.specs.Bounds.{Within, Holds, holds-whole, round-within, within-finite}
+use Rattle.float_laws.specs.Bounds.{holds-whole, round-within, within-finite}
 use Rattle.resample_window.specs.declared.Window.{Window}
 use Rattle.resample_window.specs.declared.Weight.{Weight}
 use Rattle.resample_window.specs.declared.Weight.the-variants.{Of, Nothing}
-use Rattle.resample_window.specs.Window.{tentOf, weightOf, numbers, centerOf, supportOf, unsummed, summed, empty, longest, windowOf, Tap, clampOf, tapOf, tapsTo, tapsOf, taps}
+use Rattle.resample_window.specs.Window.{tentOf, weightOf, numbers, centerOf, supportOf, unsummed, withSum, empty, longestSide, windowOf, Tap, clampOf, tapOf, tapsTo, tapsOf, taps}
 use Rattle.resample_window.specs.Signed.{clamp-below}
-use Rattle.resample_window_laws.specs.Support.{one-is, Between, support-between, center-fits, natAbs-add, numbers-small}
+use Rattle.resample_window_laws.specs.Support.{one-is, Between, support-between, center-fits, natAbs-add, window-numbers-small}
 use Rattle.resample_window.specs.Range.{center-within, window-cases, first-within, span}
 
 -- ---- the least whole number that is at least src / dst
@@ -59,8 +60,8 @@ reach-top src dst D =
 
 -- ---- a float that is at least 1, taken from 1, is not above zero
 
-abbrev pub one : Float
-one = two-to 0
+abbrev pub float-one : Float
+float-one = two-to 0
 
 not-above-of-sign : (x : Float) (a c : ℕ) → HasValue x true a c → lt zero+ x ≡ false
 unfolding lt
@@ -95,7 +96,7 @@ at-most-sum f c a C h = go (ltb c a) (nltb→le c a)
     go true k = negative-round f (a - c) c
     go false k = ap (λ (z : ℕ). lt zero+ (round f false z c)) (let z : c - a ≡ 0 = omega arith in z) ∙ zero-round f c C
 
-less-one : (f : Format) (q : Float) → T (le one q) → lt zero+ (sub f one q) ≡ false
+less-one : (f : Format) (q : Float) → T (le float-one q) → lt zero+ (sub f float-one q) ≡ false
 unfolding le lt sub add neg
 less-one f nan t = absurd t
 less-one f (inf true) t = absurd t
@@ -106,8 +107,8 @@ less-one f (fin true m e) t =
     let p = down-pos e in
     absurd (omega arith)
 less-one f (fin false m e) t =
-    ap (λ (z : Float). lt zero+ z) (sub-at f one (fin false m e) false false (down e) (m * up e) (down e) (down-pos e) (one-is (down e)) (refl, refl))
-    ∙ at-most-sum f (down e) (m * up e) (down-pos e) (at-most one (fin false m e) (down e) (m * up e) (down e) (down-pos e) (one-is (down e)) (refl, refl) t)
+    ap (λ (z : Float). lt zero+ z) (sub-at f float-one (fin false m e) false false (down e) (m * up e) (down e) (down-pos e) (one-is (down e)) (refl, refl))
+    ∙ at-most-sum f (down e) (m * up e) (down-pos e) (at-most float-one (fin false m e) (down e) (m * up e) (down e) (down-pos e) (one-is (down e)) (refl, refl) t)
 
 -- ---- the size of a rounded fraction is the rounded size
 
@@ -142,20 +143,20 @@ absolute-round f true a c = ap absolute (sym (neg-round f false a c)) ∙ absolu
 -- ---- a tent, in any format: where the difference is at least r in size and the support at most r, it is not above zero
 
 abbrev tentAt : Format → Float → Float → Float
-tentAt f d s = sub f one (absolute (div f d s))
+tentAt f d s = sub f float-one (absolute (div f d s))
 
-round-one : (f : Format) → round f false 1 1 ≡ one
+round-one : (f : Format) → round f false 1 1 ≡ float-one
 unfolding round
 round-one binary32 = refl
 round-one binary64 = refl
 
 -- the quotient of two values, the first the larger
-wide-quotient : (f : Format) (d s : Float) (t : Bool) (g S U : ℕ) → 0 < U → 0 < S → S ≤ g → HasValue d t g U → HasValue s false S U → T (le one (absolute (div f d s)))
+wide-quotient : (f : Format) (d s : Float) (t : Bool) (g S U : ℕ) → 0 < U → 0 < S → S ≤ g → HasValue d t g U → HasValue s false S U → T (le float-one (absolute (div f d s)))
 wide-quotient f d s t g S U P Q h v w =
     let e : absolute (div f d s) ≡ round f false (g * U) (U * S) = ap absolute (div-value-at f d s t false g U S U P Q P v w) ∙ absolute-round f (unlike t false) (g * U) (U * S) in
     let k : 1 * (U * S) ≤ g * U * 1 = le-trans (le-of-eq (one-mul (U * S) ∙ mul-comm U S)) (le-trans (mul-le-mul-right U h) (le-of-eq (sym (mul-one (g * U))))) in
     let m : T (le (round f false 1 1) (round f false (g * U) (U * S))) = round-mono f 1 1 (g * U) (U * S) (zero-lt-suc 0) (mul-pos P Q) k in
-    subst (λ (z : Float). T (le one z)) (sym e) (subst (λ (z : Float). T (le z (round f false (g * U) (U * S)))) (round-one f) m)
+    subst (λ (z : Float). T (le float-one z)) (sym e) (subst (λ (z : Float). T (le z (round f false (g * U) (U * S)))) (round-one f) m)
 
 inf-quotient : (f : Format) (t : Bool) (s : Float) (S U : ℕ) → HasValue s false S U → lt zero+ (tentAt f (inf t) s) ≡ false
 unfolding div absolute sub add neg lt
@@ -256,7 +257,7 @@ seen P N (suc n) Q h = go (P n) refl (seen P N n Q (λ a b l m p q. h a b l (let
     go false e (inl z) = inl (ap (λ (b : Bool). count P n + cond b 1 0) e ∙ (let k : count P n + 0 ≡ 0 = omega arith in k))
     go true e (inl z) =
         let c : count P n + cond (P n) 1 0 ≡ count P n + 1 = ap (λ (b : Bool). count P n + cond b 1 0) e in
-        inr (record { at = n; before = le-refl (suc n); passes = yes e; room = omega arith; few = omega arith })
+        inr (record { at = n; before = le-refl (suc n); passes = known e; room = omega arith; few = omega arith })
     go false e (inr s) =
         let c : count P n + cond (P n) 1 0 ≡ count P n + 0 = ap (λ (b : Bool). count P n + cond b 1 0) e in
         let l = s .before in
@@ -267,7 +268,7 @@ seen P N (suc n) Q h = go (P n) refl (seen P N n Q (λ a b l m p q. h a b l (let
         let c : count P n + cond (P n) 1 0 ≡ count P n + 1 = ap (λ (b : Bool). count P n + cond b 1 0) e in
         let l = s .before in
         let r = s .room in
-        let g : n - s .at < N = h (s .at) n l (le-refl (suc n)) (s .passes) (yes e) in
+        let g : n - s .at < N = h (s .at) n l (le-refl (suc n)) (s .passes) (known e) in
         inr (record { at = s .at; before = omega arith; passes = s .passes; room = omega arith; few = omega arith })
 
 count-few : (P : ℕ → Bool) (N n : ℕ) → 0 < N → Spread P N n → count P n ≤ N
@@ -276,8 +277,8 @@ count-few P N n Q h = elim (seen P N n Q h) [ inl z ↦ le-trans (le-of-eq z) ze
 -- ---- a window's taps
 
 -- whether the number at place k of the window has a weight
-abbrev pub reached : Window → ℕ → Bool
-reached w k = lt zero+ (tentOf w (w .first +ℤ pos k))
+abbrev pub isReached : Window → ℕ → Bool
+isReached w k = lt zero+ (tentOf w (w .first +ℤ pos k))
 
 tap-count : (w : Window) (j : ℤ) (k : ℕ) → length (tapOf (weightOf w j) k) ≡ cond (lt zero+ (tentOf w j)) 1 0
 unfolding weightOf
@@ -287,16 +288,16 @@ tap-count w j k = go (lt zero+ (tentOf w j)) _
     go true q = refl
     go false q = refl
 
-taps-count : (w : Window) (src n : ℕ) → length (tapsTo w src n) ≡ count (reached w) n
+taps-count : (w : Window) (src n : ℕ) → length (tapsTo w src n) ≡ count (isReached w) n
 unfolding tapsTo
 taps-count w src zero = refl
 taps-count w src (suc n) =
     length-append (tapsTo w src n) (tapOf (weightOf w (w .first +ℤ pos n)) (clampOf src (w .first +ℤ pos n)))
     ∙ ap (λ (z : ℕ). z + length (tapOf (weightOf w (w .first +ℤ pos n)) (clampOf src (w .first +ℤ pos n)))) (taps-count w src n)
-    ∙ ap (λ (z : ℕ). count (reached w) n + z) (tap-count w (w .first +ℤ pos n) (clampOf src (w .first +ℤ pos n)))
+    ∙ ap (λ (z : ℕ). count (isReached w) n + z) (tap-count w (w .first +ℤ pos n) (clampOf src (w .first +ℤ pos n)))
 
 -- a positive tent at j: j is less than r from the centre z, in units
-pub tent-near : (w : Window) (z j : ℤ) (r : ℕ) → Is (2 ^ low binary64) (w .center) z → Between binary64 (w .support) r → r ≤ longest → natAbs j ≤ 2 ^ prec binary64 → T (lt zero+ (tentOf w j))
+pub tent-near : (w : Window) (z j : ℤ) (r : ℕ) → Is (2 ^ low binary64) (w .center) z → Between binary64 (w .support) r → r ≤ longestSide → natAbs j ≤ 2 ^ prec binary64 → T (lt zero+ (tentOf w j))
     → natAbs (j *ℤ pos (2 ^ low binary64) -ℤ z) < r * 2 ^ low binary64
 unfolding tentOf
 tent-near w z j r h b R J t =
@@ -309,19 +310,19 @@ place-small j k h l = le-trans (natAbs-add j (pos k)) (omega arith)
 place-more : (j : ℤ) (a b : ℕ) → a < b → j +ℤ pos b ≡ j +ℤ pos a +ℤ pos (b - a)
 place-more j a b h = ap (λ (z : ℕ). j +ℤ pos z) (let e : b ≡ a + (b - a) = omega arith in e) ∙ sym (+ℤ-assoc j (pos a) (pos (b - a)))
 
-pub window-few : (w : Window) (src r n : ℕ) (z : ℤ) → Is (2 ^ low binary64) (w .center) z → Between binary64 (w .support) r → 1 ≤ r → r ≤ longest → natAbs (w .first) ≤ span → n ≤ 2 ^ 31 → length (tapsTo w src n) ≤ 2 * r
+pub window-few : (w : Window) (src r n : ℕ) (z : ℤ) → Is (2 ^ low binary64) (w .center) z → Between binary64 (w .support) r → 1 ≤ r → r ≤ longestSide → natAbs (w .first) ≤ span → n ≤ 2 ^ 31 → length (tapsTo w src n) ≤ 2 * r
 window-few w src r n z h b P R F N =
-    le-trans (le-of-eq (taps-count w src n)) (count-few (reached w) (2 * r) n (omega arith) spread)
+    le-trans (le-of-eq (taps-count w src n)) (count-few (isReached w) (2 * r) n (omega arith) spread)
   where
-    near : (k : ℕ) → k < n → T (reached w k) → natAbs ((w .first +ℤ pos k) *ℤ pos (2 ^ low binary64) -ℤ z) < r * 2 ^ low binary64
+    near : (k : ℕ) → k < n → T (isReached w k) → natAbs ((w .first +ℤ pos k) *ℤ pos (2 ^ low binary64) -ℤ z) < r * 2 ^ low binary64
     near k l t = tent-near w z (w .first +ℤ pos k) r h b R (place-small (w .first) k F (lt-of-lt-of-le l N)) t
 
-    spread : (a c : ℕ) → a < c → c < n → T (reached w a) → T (reached w c) → c - a < 2 * r
+    spread : (a c : ℕ) → a < c → c < n → T (isReached w a) → T (isReached w c) → c - a < 2 * r
     spread a c l m p q =
         close (w .first +ℤ pos a) z (c - a) r (2 ^ low binary64) (near a (let k : a < n = omega arith in k) p)
         (subst (λ (v : ℤ). natAbs (v *ℤ pos (2 ^ low binary64) -ℤ z) < r * 2 ^ low binary64) (place-more (w .first) a c l) (near c m q))
 
-pub support-reach : (src dst : ℕ) → 0 < src → src ≤ longest → 0 < dst → dst ≤ longest → Between binary64 (supportOf src dst) (reach src dst)
+pub support-reach : (src dst : ℕ) → 0 < src → src ≤ longestSide → 0 < dst → dst ≤ longestSide → Between binary64 (supportOf src dst) (reach src dst)
 support-reach src dst A B C D = support-between src dst (reach src dst) B C D (reach-pos src dst A C) (le-trans (reach-top src dst C) B) (reach-covers src dst C)
 
 no-taps : (src : ℕ) → length (tapsOf empty src) ≡ 0
@@ -335,17 +336,17 @@ taps-few src dst i =
     (λ F N. le-trans (le-of-eq (no-taps src)) zero-le)
     (λ A B C D I F N.
     let z = every-finite binary64 (centerOf src dst i) (center-fits src dst i) (within-finite (centerOf src dst i) (2 ^ 14 + 1) 1 (center-within src dst i B C D I)) in
-    let w = summed (unsummed (centerOf src dst i) (supportOf src dst)) in
+    let w = withSum (unsummed (centerOf src dst i) (supportOf src dst)) in
     window-few w src (reach src dst) (numbers (w .first) (w .last)) (z .0) (z .1) (support-reach src dst A B C D) (reach-pos src dst A C) (le-trans (reach-top src dst C) B) F N)
-    (first-within src dst i) (numbers-small src dst i)
+    (first-within src dst i) (window-numbers-small src dst i)
 
 -- ---- room for the taps of 256 samples, and of 256 samples' enlargement
 
-pub taps-room-down : (src : ℕ) → src ≤ longest → 256 * (2 * reach src 256) ≤ 16384
+pub taps-room-down : (src : ℕ) → src ≤ longestSide → 256 * (2 * reach src 256) ≤ 16384
 unfolding reach
 taps-room-down src h = let l : (src + 256 - 1) / 256 ≤ 32 = omega arith in omega arith
 
-pub taps-room-up : (dst : ℕ) → 256 ≤ dst → dst ≤ longest → dst * (2 * reach 256 dst) ≤ 16384
+pub taps-room-up : (dst : ℕ) → 256 ≤ dst → dst ≤ longestSide → dst * (2 * reach 256 dst) ≤ 16384
 unfolding reach
 taps-room-up dst h k =
     let e : 2 * dst ≡ dst + dst = omega arith in

@@ -14,13 +14,14 @@ use lib.Ieee.Exact.{HasValue}
 use lib.Ieee.Fits.{sub-fits}
 use lib.Ieee.Scale.{grid}
 use Rattle.float.specs.Base.{two-to, half}
-use Rattle.float.specs.Calls.{most}
+use Rattle.float.specs.Calls.{larger}
 use Rattle.float.specs.Fraction.{lt-at}
 use Rattle.float_laws.specs.Exact.{abs-neg}
 use Rattle.float_laws.specs.AddError.{size-within}
-use Rattle.float_laws.specs.Bounds.{Within, Holds, holds-whole, round-within}
+use Rattle.float_laws.specs.Values.{Within, Holds}
+use Rattle.float_laws.specs.Bounds.{holds-whole, round-within}
 use Rattle.float.specs.Rounding.{round-shape}
-use Rattle.resample_window.specs.Window.{scaleOf, centerOf, supportOf, longest, windowOf, numbers}
+use Rattle.resample_window.specs.Window.{scaleOf, centerOf, supportOf, longestSide, windowOf, numbers}
 use Rattle.resample_window.specs.Range.{scale-is, first-within, last-within, span}
 
 -- ---- the support: at least 1, and at most any whole number r that is at least 1 and at least src / dst
@@ -44,8 +45,8 @@ number nan s a c h = absurd h
 number (inf t) s a c h = absurd h
 number (fin t m e) s a c h = refl
 
-most-between : (f : Format) (x : Float) (g r : ℕ) → 1 ≤ r → HasValue x false g (2 ^ low f) → g ≤ r * 2 ^ low f → Between f (most x (two-to 0)) r
-unfolding most
+most-between : (f : Format) (x : Float) (g r : ℕ) → 1 ≤ r → HasValue x false g (2 ^ low f) → g ≤ r * 2 ^ low f → Between f (larger x (two-to 0)) r
+unfolding larger
 most-between f x g r R v l =
     subst (λ (b : Bool). Between f (cond b (two-to 0) (cond (lt x (two-to 0)) (two-to 0) x)) r) (sym (number x false g (2 ^ low f) v))
     (subst (λ (b : Bool). Between f (cond b (two-to 0) x) r) (sym (lt-at x (two-to 0) false false g (2 ^ low f) (2 ^ low f) (pow-pos (low f)) v (one-is (2 ^ low f)))) (go (ltb g (2 ^ low f)) (nltb→le g (2 ^ low f))))
@@ -54,7 +55,7 @@ most-between f x g r R v l =
     go true k = record { size = 2 ^ low f; value = one-is (2 ^ low f); least = le-refl (2 ^ low f); greatest = at-least-own r (2 ^ low f) R }
     go false k = record { size = g; value = v; least = k tt; greatest = l }
 
-round-between : (f : Format) (a c r : ℕ) → 0 < c → 1 ≤ r → Holds f r 1 → a ≤ r * c → Between f (most (round f false a c) (two-to 0)) r
+round-between : (f : Format) (a c r : ℕ) → 0 < c → 1 ≤ r → Holds f r 1 → a ≤ r * c → Between f (larger (round f false a c) (two-to 0)) r
 round-between f a c r C R H h =
     let w : Within (round f false a c) r 1 = round-within f false a c r 1 C (zero-lt-suc 0) H (le-trans (le-of-eq (mul-one a)) h) in
     elim (round-shape f false a c) [
@@ -62,10 +63,10 @@ round-between f a c r C R H h =
       | inr v ↦ most-between f (round f false a c) (grid f a c) r R v (size-within f (round f false a c) (pos (grid f a c)) r (record { sign = false; size = grid f a c; value = v; whole = refl }) w)
     ]
 
-pub support-between : (src dst r : ℕ) → src ≤ longest → 0 < dst → dst ≤ longest → 1 ≤ r → r ≤ longest → src ≤ r * dst → Between binary64 (supportOf src dst) r
+pub support-between : (src dst r : ℕ) → src ≤ longestSide → 0 < dst → dst ≤ longestSide → 1 ≤ r → r ≤ longestSide → src ≤ r * dst → Between binary64 (supportOf src dst) r
 unfolding supportOf
 support-between src dst r B C D R Q h =
-    subst (λ (z : Float). Between binary64 (most z (two-to 0)) r) (sym (scale-is src dst B C D)) (round-between binary64 src dst r C R (holds-whole binary64 r (le-trans Q (lit≤ tt))) h)
+    subst (λ (z : Float). Between binary64 (larger z (two-to 0)) r) (sym (scale-is src dst B C D)) (round-between binary64 src dst r C R (holds-whole binary64 r (le-trans Q (lit≤ tt))) h)
 
 pub center-fits : (src dst i : ℕ) → T (fits binary64 (centerOf src dst i))
 unfolding centerOf
@@ -105,5 +106,5 @@ numbers-le a b n h k = go (ltZ b a)
 pub numbers-within : (src dst i : ℕ) → numbers (windowOf src dst i .first) (windowOf src dst i .last) ≤ 2 * span + 1
 numbers-within src dst i = numbers-le (windowOf src dst i .first) (windowOf src dst i .last) span (first-within src dst i) (last-within src dst i)
 
-pub numbers-small : (src dst i : ℕ) → numbers (windowOf src dst i .first) (windowOf src dst i .last) ≤ 2 ^ 31
-numbers-small src dst i = le-trans (numbers-within src dst i) (lit≤ tt)
+pub window-numbers-small : (src dst i : ℕ) → numbers (windowOf src dst i .first) (windowOf src dst i .last) ≤ 2 ^ 31
+window-numbers-small src dst i = le-trans (numbers-within src dst i) (lit≤ tt)

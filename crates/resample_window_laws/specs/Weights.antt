@@ -18,20 +18,21 @@ use lib.Ieee.Order.{round-mono}
 use lib.Ieee.Positive.{first-pos}
 use lib.Ieee.Scale.{grid, round-same}
 use Rattle.float.specs.Base.{zero+}
-use Rattle.float.specs.Known.{yes}
+use Rattle.float.specs.Known.{known}
 use Rattle.float.specs.Calls.{absolute, narrow}
 use Rattle.float.specs.Fraction.{value-scale, add-at, sub-at, at-most}
 use Rattle.float_laws.specs.Product.{div-value-at}
 use Rattle.float.specs.Step.{minus-at-most}
 use Rattle.float.specs.Rounding.{Held, held, round-to, round-shape}
 use Rattle.float_laws.specs.AddError.{size-within}
-use Rattle.float_laws.specs.Bounds.{Within, Holds, holds-whole, holds-scaled, round-within}
+use Rattle.float_laws.specs.Values.{Within, Holds}
+use Rattle.float_laws.specs.Bounds.{holds-whole, holds-scaled, round-within}
 use Rattle.resample_window.specs.declared.Window.{Window}
 use Rattle.resample_window.specs.declared.Weight.the-variants.{Of, Nothing}
-use Rattle.resample_window.specs.Window.{tentOf, weightOf, sumOf, numbers, centerOf, supportOf, unsummed, summed, empty, Tap, clampOf, tapOf, tapsTo, tapsOf, taps}
-use Rattle.resample_window_laws.specs.Support.{one-is, numbers-small}
+use Rattle.resample_window.specs.Window.{tentOf, weightOf, tentSum, numbers, centerOf, supportOf, unsummed, withSum, empty, Tap, clampOf, tapOf, tapsTo, tapsOf, taps}
+use Rattle.resample_window_laws.specs.Support.{one-is, window-numbers-small}
 use Rattle.resample_window.specs.Range.{window-cases}
-use Rattle.resample_window_laws.specs.Reach.{one, at-most-sum, reached, each-append}
+use Rattle.resample_window_laws.specs.Reach.{float-one, at-most-sum, isReached, each-append}
 
 -- ---- a rounded fraction that is at most the whole number b, in units of the format's smallest value
 
@@ -99,11 +100,11 @@ rounded-tent f a c C h k =
     let s = rounded-sized f a c 1 C (holds-whole f 1 (pow-pos (prec f))) (le-trans h (le-of-eq (sym (one-mul c)))) in
     record { size = s .size; value = s .value; least = power-least f (prec f) a c (s .size) (prec-low f) C k (s .value); greatest = s .greatest }
 
-tent-of : (f : Format) (q : Float) → T (fits f q) → T (lt zero+ (sub f one (absolute q))) → Tent f (sub f one (absolute q))
+tent-of : (f : Format) (q : Float) → T (fits f q) → T (lt zero+ (sub f float-one (absolute q))) → Tent f (sub f float-one (absolute q))
 unfolding absolute sub add neg lt
 tent-of f nan t p = absurd p
 tent-of f (inf s) t p = absurd p
-tent-of f (fin s m e) t p = fold (sub-at f one (fin false m e) false false (down e) (m * up e) (down e) (down-pos e) (one-is (down e)) (refl, refl))
+tent-of f (fin s m e) t p = fold (sub-at f float-one (fin false m e) false false (down e) (m * up e) (down e) (down-pos e) (one-is (down e)) (refl, refl))
   where
     go : (b : Bool) → (T b → m * up e < down e) → (T (not b) → down e ≤ m * up e) → T (lt zero+ (sum f false (down e) true (m * up e) (down e))) → Tent f (sum f false (down e) true (m * up e) (down e))
     go true l n q =
@@ -113,7 +114,7 @@ tent-of f (fin s m e) t p = fold (sub-at f one (fin false m e) false false (down
         (rounded-tent f a (down e) (down-pos e) (omega arith) (gap f m e (held f s m e t) x))
     go false l n q = absurd (subst T (at-most-sum f (down e) (m * up e) (down-pos e) (n tt)) q)
 
-    fold : sub f one (fin false m e) ≡ sum f false (down e) true (m * up e) (down e) → Tent f (sub f one (fin false m e))
+    fold : sub f float-one (fin false m e) ≡ sum f false (down e) true (m * up e) (down e) → Tent f (sub f float-one (fin false m e))
     fold x = subst (λ (z : Float). Tent f z) (sym x) (go (ltb (m * up e) (down e)) (ltb→lt (m * up e) (down e)) (nltb→le (m * up e) (down e)) (subst (λ (z : Float). T (lt zero+ z)) x p))
 
 pub tent-size : (w : Window) (j : ℤ) → T (lt zero+ (tentOf w j)) → Tent binary64 (tentOf w j)
@@ -122,7 +123,7 @@ tent-size w j t = tent-of binary64 (div binary64 (sub binary64 (ofInt binary64 j
 
 tent-fits : (w : Window) (j : ℤ) → T (fits binary64 (tentOf w j))
 unfolding tentOf
-tent-fits w j = sub-fits binary64 one (absolute (div binary64 (sub binary64 (ofInt binary64 j) (w .center)) (w .support)))
+tent-fits w j = sub-fits binary64 float-one (absolute (div binary64 (sub binary64 (ofInt binary64 j) (w .center)) (w .support)))
 
 -- ---- the sum of the positive tents is at least each of them
 
@@ -150,11 +151,11 @@ add-more f x t n G g X Y v w h k H =
 record Total (w : Window) (n : ℕ) (x : Float) : Type 0 where
   pub sized : Sized binary64 x n
   pub holds : T (fits binary64 x)
-  pub each : (k : ℕ) (t : T (reached w k)) → k < n → tent-size w (w .first +ℤ pos k) t .size ≤ sized .size
+  pub each : (k : ℕ) (t : T (isReached w k)) → k < n → tent-size w (w .first +ℤ pos k) t .size ≤ sized .size
 
 -- the size of a tent, whatever the proof that it is positive
-same-size : (w : Window) (k : ℕ) (t u : T (reached w k)) → tent-size w (w .first +ℤ pos k) t .size ≡ tent-size w (w .first +ℤ pos k) u .size
-same-size w k t u = ap (λ (q : T (reached w k)). tent-size w (w .first +ℤ pos k) q .size) (T-prop (reached w k) t u)
+same-size : (w : Window) (k : ℕ) (t u : T (isReached w k)) → tent-size w (w .first +ℤ pos k) t .size ≡ tent-size w (w .first +ℤ pos k) u .size
+same-size w k t u = ap (λ (q : T (isReached w k)). tent-size w (w .first +ℤ pos k) q .size) (T-prop (isReached w k) t u)
 
 zero-fits : T (fits binary64 zero+)
 unfolding fits
@@ -168,20 +169,20 @@ next-sized f x n s = record { size = s .size; value = s .value; greatest = le-tr
 
 module _ (w : Window) (n : ℕ) (x : Float) (s : Total w n x) (l : suc n ≤ 2 ^ 31) where
   -- a number with no weight
-  passed : reached w n ≡ false → Total w (suc n) x
+  passed : isReached w n ≡ false → Total w (suc n) x
   passed e =
       record {
         sized = next-sized binary64 x n (s .sized);
         holds = s .holds;
         each = λ k t h.
             elim (eq-or-lt-of-le (le-of-suc-le-suc h)) [
-              | inl q ↦ absurd (subst T (ap (reached w) q ∙ e) t)
+              | inl q ↦ absurd (subst T (ap (isReached w) q ∙ e) t)
               | inr q ↦ s .each k t q
             ];
       }
 
   -- a number with one
-  taken : T (reached w n) → Total w (suc n) (add binary64 x (tentOf w (w .first +ℤ pos n)))
+  taken : T (isReached w n) → Total w (suc n) (add binary64 x (tentOf w (w .first +ℤ pos n)))
   taken p =
       let j = w .first +ℤ pos n in
       let t = tent-size w j p in
@@ -194,19 +195,19 @@ module _ (w : Window) (n : ℕ) (x : Float) (s : Total w n x) (l : suc n ≤ 2 ^
         holds = add-fits binary64 x (tentOf w j);
         each = λ k u h.
             elim (eq-or-lt-of-le (le-of-suc-le-suc h)) [
-              | inl q ↦ subst (λ (i : ℕ). (v : T (reached w i)) → tent-size w (w .first +ℤ pos i) v .size ≤ m .sized .size) (sym q) (λ v. le-trans (le-of-eq (same-size w n v p)) (m .new)) u
+              | inl q ↦ subst (λ (i : ℕ). (v : T (isReached w i)) → tent-size w (w .first +ℤ pos i) v .size ≤ m .sized .size) (sym q) (λ v. le-trans (le-of-eq (same-size w n v p)) (m .new)) u
               | inr q ↦ le-trans (s .each k u q) (m .old)
             ];
       }
 
-total : (w : Window) (n : ℕ) → n ≤ 2 ^ 31 → Total w n (sumOf w n)
-unfolding sumOf
+total : (w : Window) (n : ℕ) → n ≤ 2 ^ 31 → Total w n (tentSum w n)
+unfolding tentSum
 total w zero h = record { sized = zero-sized binary64; holds = zero-fits; each = λ k t l. absurd (not-suc-le-zero l) }
-total w (suc n) h = go (reached w n) refl (total w n (le-trans (le-suc n) h))
+total w (suc n) h = go (isReached w n) refl (total w n (le-trans (le-suc n) h))
   where
-    go : (b : Bool) → reached w n ≡ b → Total w n (sumOf w n) → Total w (suc n) (cond b (add binary64 (sumOf w n) (tentOf w (w .first +ℤ pos n))) (sumOf w n))
-    go true e s = taken w n (sumOf w n) s h (yes e)
-    go false e s = passed w n (sumOf w n) s h e
+    go : (b : Bool) → isReached w n ≡ b → Total w n (tentSum w n) → Total w (suc n) (cond b (add binary64 (tentSum w n) (tentOf w (w .first +ℤ pos n))) (tentSum w n))
+    go true e s = taken w n (tentSum w n) s h (known e)
+    go false e s = passed w n (tentSum w n) s h e
 
 -- ---- the quotient of two narrowed values, the first the smaller
 
@@ -265,11 +266,11 @@ narrowed-share t x g G n U P v w l h m k N =
     (subst (λ (z : Float). Share (div binary32 (round binary32 false g U) z)) (sym (narrow-is x G U P w))
     (quotient binary32 53 (2 ^ 31) g G U (lit≤ tt) power-holds P l (le-trans h (le-of-eq (one-mul U))) m (le-trans k (mul-le-mul-right U N))))
 
-pub weight-share : (w : Window) (n k : ℕ) → n ≤ 2 ^ 31 → k < n → T (reached w k) → Share (div binary32 (narrow (tentOf w (w .first +ℤ pos k))) (narrow (sumOf w n)))
+pub weight-share : (w : Window) (n k : ℕ) → n ≤ 2 ^ 31 → k < n → T (isReached w k) → Share (div binary32 (narrow (tentOf w (w .first +ℤ pos k))) (narrow (tentSum w n)))
 weight-share w n k N h t =
     let u = tent-size w (w .first +ℤ pos k) t in
     let s = total w n N in
-    narrowed-share (tentOf w (w .first +ℤ pos k)) (sumOf w n) (u .size) (s .sized .size) n (2 ^ low binary64) (pow-pos (low binary64)) (u .value) (s .sized .value) (u .least) (u .greatest) (s .each k t h) (s .sized .greatest) N
+    narrowed-share (tentOf w (w .first +ℤ pos k)) (tentSum w n) (u .size) (s .sized .size) n (2 ^ low binary64) (pow-pos (low binary64)) (u .value) (s .sized .value) (u .least) (u .greatest) (s .each k t h) (s .sized .greatest) N
 
 -- ---- of every tap
 
@@ -278,17 +279,17 @@ tap-share true q k z h zero l = h tt
 tap-share true q k z h (suc m) l = absurd (let x : suc m < 1 = l in omega arith)
 tap-share false q k z h m l = absurd (let x : m < 0 = l in omega arith)
 
-tapsTo-share : (w : Window) (src N : ℕ) (z : Tap) → ((k : ℕ) → k < N → T (reached w k) → Share (div binary32 (narrow (tentOf w (w .first +ℤ pos k))) (narrow (w .sum))))
+tapsTo-share : (w : Window) (src N : ℕ) (z : Tap) → ((k : ℕ) → k < N → T (isReached w k) → Share (div binary32 (narrow (tentOf w (w .first +ℤ pos k))) (narrow (w .sum))))
     → (n : ℕ) → n ≤ N → (m : ℕ) → m < length (tapsTo w src n) → Share (getD (tapsTo w src n) m z .weight)
 unfolding tapsTo weightOf
 tapsTo-share w src N z h zero l m x = absurd (let y : m < 0 = x in omega arith)
 tapsTo-share w src N z h (suc n) l m x =
     let j = w .first +ℤ pos n in
     each-append (λ (t : Tap). Share (t .weight)) (tapsTo w src n) (tapOf (weightOf w j) (clampOf src j)) z (tapsTo-share w src N z h n (le-of-lt l))
-    (tap-share (reached w n) (div binary32 (narrow (tentOf w j)) (narrow (w .sum))) (clampOf src j) z (h n l)) m x
+    (tap-share (isReached w n) (div binary32 (narrow (tentOf w j)) (narrow (w .sum))) (clampOf src j) z (h n l)) m x
 
-summed-share : (c s : Float) (k : ℕ) → numbers (unsummed c s .first) (unsummed c s .last) ≤ 2 ^ 31 → k < numbers (unsummed c s .first) (unsummed c s .last) → T (reached (summed (unsummed c s)) k)
-    → Share (div binary32 (narrow (tentOf (summed (unsummed c s)) (summed (unsummed c s) .first +ℤ pos k))) (narrow (summed (unsummed c s) .sum)))
+summed-share : (c s : Float) (k : ℕ) → numbers (unsummed c s .first) (unsummed c s .last) ≤ 2 ^ 31 → k < numbers (unsummed c s .first) (unsummed c s .last) → T (isReached (withSum (unsummed c s)) k)
+    → Share (div binary32 (narrow (tentOf (withSum (unsummed c s)) (withSum (unsummed c s) .first +ℤ pos k))) (narrow (withSum (unsummed c s) .sum)))
 unfolding tentOf
 summed-share c s k N h t = weight-share (unsummed c s) (numbers (unsummed c s .first) (unsummed c s .last)) k N h t
 
@@ -302,9 +303,9 @@ taps-share src dst i z =
     window-cases (λ (w : Window). numbers (w .first) (w .last) ≤ 2 ^ 31 → (n : ℕ) → n < length (tapsOf w src) → Share (getD (tapsOf w src) n z .weight)) src dst i
     (λ N. no-share src z)
     (λ A B C D I N.
-    let w = summed (unsummed (centerOf src dst i) (supportOf src dst)) in
+    let w = withSum (unsummed (centerOf src dst i) (supportOf src dst)) in
     tapsTo-share w src (numbers (w .first) (w .last)) z (λ k l t. summed-share (centerOf src dst i) (supportOf src dst) k N l t) (numbers (w .first) (w .last)) (le-refl (numbers (w .first) (w .last))))
-    (numbers-small src dst i)
+    (window-numbers-small src dst i)
 
 pub weights-within : (src dst i : ℕ) (z : Tap) (n : ℕ) → n < length (taps src dst i) → Within (getD (taps src dst i) n z .weight) 1 1
 weights-within src dst i z n l = share-within (getD (taps src dst i) n z .weight) (taps-share src dst i z n l)

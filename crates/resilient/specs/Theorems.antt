@@ -17,7 +17,7 @@ use Rattle.record.specs.declared.Key.{Key}
 use Rattle.record.specs.declared.Lock.{Lock}
 use Rattle.record.specs.Answers.{readAs}
 use Rattle.resample.specs.Samples.{Sized, planeOf}
-use Rattle.resample.specs.Finite.{Bytes, plane-within}
+use Rattle.resample.specs.Finite.{ByteSamples, plane-within}
 use Rattle.resample_up.specs.Alpha.{fourth-kept}
 use Rattle.plane.specs.Finite.{length-votes, votes-good}
 use Rattle.picture.specs.declared.Picture.{Picture}
@@ -55,7 +55,7 @@ alpha-kept text lock p samples work four y x Y X = go (writeAnswer text lock p (
 
 -- ---- reading
 
-module _ (key : Key) (p : Picture) (samples : List ℕ) (work : List Float) (bytes : Bytes samples) (done : readAdmission p (length samples) (length work) ≡ Done) where
+module _ (key : Key) (p : Picture) (samples : List ℕ) (work : List Float) (bytes : ByteSamples samples) (done : readAdmission p (length samples) (length work) ≡ Done) where
   pub votes-in-unit : (b : ℕ) → b < blockCount → inUnit (getD (pictureVotes p samples) b nan) ≡ true
   unfolding pictureVotes
   votes-in-unit =

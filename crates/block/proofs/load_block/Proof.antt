@@ -12,22 +12,23 @@ use lib.Ieee.{Float, nan}
 use Rattle.seq.specs.Tab.{length-tab}
 use Rattle.seq.specs.Lists.{tab, lines}
 use Rattle.seq.specs.Lines.{lines-more, part-tab}
-use Rattle.dct.specs.Grid.{grid, lineOf}
-use Rattle.block.specs.Plane.{lineAt, loadOf, line-fits}
+use Rattle.dct.specs.Grid.{grid, blockLine}
+use Rattle.block.specs.Plane.{lineAt, loadOf}
+use Rattle.block.specs.Stored.{line-fits}
 use Rattle.block.proofs.load_block.Statement.{statement}
 use Rattle.block.proofs.load_block.Tie as tie
 
 -- the block's first r lines are those of g
 abbrev Begun : (ℕ → ℕ → Float) → ℕ → List Float → Type 0
-Begun g r p = (length p ≡ 64) × (take (r * 8) p ≡ lines (lineOf g) r)
+Begun g r p = (length p ≡ 64) × (take (r * 8) p ≡ lines (blockLine g) r)
 
-begun-more : (g : ℕ → ℕ → Float) (r : ℕ) (p q line : List Float) → r < 8 → Begun g r p → line ≡ lineOf g r → q ≡ paste p (r * 8) line (length line) → Begun g (r + 1) q
+begun-more : (g : ℕ → ℕ → Float) (r : ℕ) (p q line : List Float) → r < 8 → Begun g r p → line ≡ blockLine g r → q ≡ paste p (r * 8) line (length line) → Begun g (r + 1) q
 begun-more g r p q line h b e f =
     let l : length line ≡ 8 = ap length e ∙ length-tab (g r) 8 in
     let room : r * 8 + 8 ≤ length p = omega (arith, b .0) in
-    let s : q ≡ paste p (r * 8) (lineOf g r) 8 = f ∙ ap₂ (λ (xs : List Float) (n : ℕ). paste p (r * 8) xs n) e l in (
-      ap length s ∙ (length-paste p (r * 8) (lineOf g r) 8 room (omega (arith, length-tab (g r) 8)) ∙ b .0),
-      ap (λ (xs : List Float). take ((r + 1) * 8) xs) s ∙ lines-more 8 (lineOf g) r p room (length-tab (g r) 8) (b .1),
+    let s : q ≡ paste p (r * 8) (blockLine g r) 8 = f ∙ ap₂ (λ (xs : List Float) (n : ℕ). paste p (r * 8) xs n) e l in (
+      ap length s ∙ (length-paste p (r * 8) (blockLine g r) 8 room (omega (arith, length-tab (g r) 8)) ∙ b .0),
+      ap (λ (xs : List Float). take ((r + 1) * 8) xs) s ∙ lines-more 8 (blockLine g) r p room (length-tab (g r) 8) (b .1),
     )
 
 begun-all : (g : ℕ → ℕ → Float) (r : ℕ) (p : List Float) → r ≡ 8 → Begun g r p → p ≡ grid g

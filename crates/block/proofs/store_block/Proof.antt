@@ -7,13 +7,14 @@ use lib.ListN.{length}
 use Rattle.seq.specs.Tab.{length-tab}
 use Rattle.seq.specs.Lines.{pasted-none, pasted-more}
 use Rattle.seq.specs.Lists.{pasted}
-use Rattle.dct.specs.Grid.{cell, lineOf}
-use Rattle.block.specs.Plane.{lineAt, storedOf, line-fits}
+use Rattle.dct.specs.Grid.{cell, blockLine}
+use Rattle.block.specs.Plane.{lineAt, storedOf}
+use Rattle.block.specs.Stored.{line-fits}
 use Rattle.block.proofs.store_block.Statement.{statement}
 use Rattle.block.proofs.store_block.Tie as tie
 
 abbrev Inv-loop : tie.InvT-loop
-Inv-loop plane₀ b values r₀ plane r = (r ≤ 8) × (length plane ≡ length plane₀) × (plane ≡ pasted 8 (lineAt b) (lineOf (cell values)) r plane₀)
+Inv-loop plane₀ b values r₀ plane r = (r ≤ 8) × (length plane ≡ length plane₀) × (plane ≡ pasted 8 (lineAt b) (blockLine (cell values)) r plane₀)
 
 abbrev μ-loop : tie.MeasureT-loop
 μ-loop plane₀ b values r₀ plane r = 8 - r

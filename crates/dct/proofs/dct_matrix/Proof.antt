@@ -7,13 +7,13 @@ use lib.ListN.{length, take}
 use lib.Ieee.{ofBits}
 use Rattle.seq.specs.Tab.{prefix-more, prefix-all}
 use Rattle.seq.specs.Lists.{tab}
-use Rattle.dct.specs.Matrix.{matrix, entry}
+use Rattle.dct.specs.Matrix.{matrix, dctEntry}
 use Rattle.dct.specs.Columns.{table-grid}
 use Rattle.dct.proofs.dct_matrix.Statement.{statement}
 use Rattle.dct.proofs.dct_matrix.Tie as tie
 
 abbrev Inv-loop : tie.InvT-loop
-Inv-loop table m₀ p₀ m p = (table ≡ matrix) × (p ≤ 64) × (length m ≡ 64) × (take p m ≡ tab (λ q. entry (q / 8) (q % 8)) p)
+Inv-loop table m₀ p₀ m p = (table ≡ matrix) × (p ≤ 64) × (length m ≡ 64) × (take p m ≡ tab (λ q. dctEntry (q / 8) (q % 8)) p)
 
 abbrev μ-loop : tie.MeasureT-loop
 μ-loop table m₀ p₀ m p = 64 - p
@@ -28,7 +28,7 @@ loop-again c = (search needs, search needs, search needs, prefix-more _ _ _ _ (o
 returns : tie.Need-returns Inv-loop μ-loop
 returns c =
     let e : c .before .loop .p ≡ 64 = omega arith in
-    prefix-all _ _ _ (c .before .loop .inv .2) (rw e at (c .before .loop .inv .3)) ∙ table-grid entry
+    prefix-all _ _ _ (c .before .loop .inv .2) (rw e at (c .before .loop .inv .3)) ∙ table-grid dctEntry
 
 pub dct-matrix-spec : {M : Type 1} → statement M
 dct-matrix-spec =

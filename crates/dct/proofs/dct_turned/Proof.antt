@@ -6,14 +6,14 @@ use native.Mathlib.Omega.{arith}
 use lib.ListN.{length, take}
 use Rattle.seq.specs.Tab.{prefix-more, prefix-all}
 use Rattle.seq.specs.Lists.{tab}
-use Rattle.dct.specs.Grid.{grid, cell-grid}
-use Rattle.dct.specs.Matrix.{entry, turnedEntry}
-use Rattle.dct.specs.Columns.{table-grid}
+use Rattle.dct.specs.Grid.{grid}
+use Rattle.dct.specs.Columns.{cell-grid, table-grid}
+use Rattle.dct.specs.Matrix.{dctEntry, dctTurned}
 use Rattle.dct.proofs.dct_turned.Statement.{statement}
 use Rattle.dct.proofs.dct_turned.Tie as tie
 
 abbrev Inv-loop : tie.InvT-loop
-Inv-loop matrix m₀ p₀ m p = (matrix ≡ grid entry) × (p ≤ 64) × (length m ≡ 64) × (take p m ≡ tab (λ q. turnedEntry (q / 8) (q % 8)) p)
+Inv-loop matrix m₀ p₀ m p = (matrix ≡ grid dctEntry) × (p ≤ 64) × (length m ≡ 64) × (take p m ≡ tab (λ q. dctTurned (q / 8) (q % 8)) p)
 
 abbrev μ-loop : tie.MeasureT-loop
 μ-loop matrix m₀ p₀ m p = 64 - p
@@ -25,12 +25,12 @@ loop-holds c = (c .dct-matrix .ensures, search needs, refl, refl)
 loop-again : tie.Need-loop-again Inv-loop μ-loop
 loop-again c =
     let loop = c .before .loop in
-    (search needs, search needs, search needs, prefix-more _ _ _ _ (omega arith) (rw (loop .inv .0) (cell-grid entry (loop .p % 8) (loop .p / 8) (omega arith) (omega arith))) (loop .inv .3))
+    (search needs, search needs, search needs, prefix-more _ _ _ _ (omega arith) (rw (loop .inv .0) (cell-grid dctEntry (loop .p % 8) (loop .p / 8) (omega arith) (omega arith))) (loop .inv .3))
 
 returns : tie.Need-returns Inv-loop μ-loop
 returns c =
     let e : c .before .loop .p ≡ 64 = omega arith in
-    prefix-all _ _ _ (c .before .loop .inv .2) (rw e at (c .before .loop .inv .3)) ∙ table-grid turnedEntry
+    prefix-all _ _ _ (c .before .loop .inv .2) (rw e at (c .before .loop .inv .3)) ∙ table-grid dctTurned
 
 pub dct-turned-spec : {M : Type 1} → statement M
 dct-turned-spec =

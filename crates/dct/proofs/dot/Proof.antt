@@ -8,7 +8,7 @@ use Rattle.seq.specs.Sum.{sum-none, sum-more}
 use Rattle.seq.specs.Lists.{sumTo}
 use Rattle.float.specs.Base.{zero-}
 use Rattle.dct.specs.Grid.{cell}
-use Rattle.dct.specs.Product.{dotOf}
+use Rattle.dct.specs.Dct.{dotOf}
 use Rattle.dct.proofs.dot.Statement.{statement}
 use Rattle.dct.proofs.dot.Tie as tie
 

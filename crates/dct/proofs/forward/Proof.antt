@@ -2,7 +2,7 @@
 use borrow.Author.Needs.{needs}
 use mathlib.Core.Path.{_∙_, ap}
 use denote.Ref.{now}
-use Rattle.dct.specs.Matrix.{entry}
+use Rattle.dct.specs.Matrix.{dctEntry}
 use Rattle.dct.specs.Dct.{throughColumns}
 use Rattle.dct.specs.Product.{rows-by, columns-by}
 use Rattle.dct.proofs.forward.Statement.{statement}
@@ -11,7 +11,7 @@ use Rattle.dct.proofs.forward.Tie as tie
 returns : tie.Need-returns
 returns c =
     let start = c .before .before .before .before in
-    c .product2 .ensures ∙ (columns-by entry (now (start .args .matrix)) _ (start .pre .0) ∙ ap (throughColumns entry) (c .before .before .product .ensures ∙ rows-by entry (now (start .args .block)) _ (start .pre .1)))
+    c .product2 .ensures ∙ (columns-by dctEntry (now (start .args .matrix)) _ (start .pre .0) ∙ ap (throughColumns dctEntry) (c .before .before .product .ensures ∙ rows-by dctEntry (now (start .args .block)) _ (start .pre .1)))
 
 pub forward-spec : {M : Type 1} → statement M
 forward-spec = tie.close (tie.spec (λ c κs. search needs) (λ c κs. search needs) returns)

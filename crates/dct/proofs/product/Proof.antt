@@ -4,7 +4,7 @@ use mathlib.Core.Path.{refl}
 use Prim.Native.Nat.{_-_, _≤_}
 use native.Mathlib.Omega.{arith}
 use Rattle.dct.specs.Columns.{FirstColumns, columns-more, columns-all}
-use Rattle.dct.specs.Product.{dotOf}
+use Rattle.dct.specs.Dct.{dotOf}
 use Rattle.dct.proofs.product.Statement.{statement}
 use Rattle.dct.proofs.product.Tie as tie
 

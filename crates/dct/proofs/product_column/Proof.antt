@@ -3,8 +3,9 @@ use borrow.Author.Needs.{needs}
 use mathlib.Core.Path.{_≡_}
 use Prim.Native.Nat.{_-_, _≤_}
 use native.Mathlib.Omega.{arith}
-use Rattle.dct.specs.Columns.{column, column-none, column-more}
-use Rattle.dct.specs.Product.{dotOf}
+use Rattle.dct.specs.Grid.{column}
+use Rattle.dct.specs.Columns.{column-none, column-more}
+use Rattle.dct.specs.Dct.{dotOf}
 use Rattle.dct.proofs.product_column.Statement.{statement}
 use Rattle.dct.proofs.product_column.Tie as tie
 

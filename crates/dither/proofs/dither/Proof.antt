@@ -5,7 +5,8 @@ use mathlib.Core.List.{List}
 use Prim.Native.Nat.{ℕ}
 use Rattle.seq.specs.Lists.{tab}
 use Rattle.shuffle.specs.Shuffle.{layoutKey}
-use Rattle.dither.specs.Dither.{ditherNonce, dithered, group-of}
+use Rattle.dither.specs.Dither.{ditherNonce, dithered}
+use Rattle.dither.specs.Numbers.{group-of}
 use Rattle.dither.proofs.dither.Statement.{statement}
 use Rattle.dither.proofs.dither.Tie as tie
 

@@ -4,7 +4,7 @@ use mathlib.Core.Bool.{true}
 use borrow.Author.Tests.{lt-ltb, le-ltb}
 use lib.Ieee.{Float, nan, inf, fin, binary32, div, isNan, ofBits}
 use lib.Ieee.Bits.{nanBits-is, nanBits-above}
-use Rattle.float.specs.Known.{no}
+use Rattle.float.specs.Known.{known-not}
 use Rattle.float.proofs.f32_from_bits.Statement.{statement}
 use Rattle.float.proofs.f32_from_bits.Tie as tie
 
@@ -22,7 +22,7 @@ returns : tie.Need-returns
 returns c = no-quotient ∙ sym (is-nan (ofBits binary32 (c .before .args .bits)) (sym (nanBits-is binary32 (c .before .args .bits)) ∙ nanBits-above binary32 (c .before .args .bits) ∙ lt-ltb _ _ (c .if1 .taken)))
 
 float-from-bits-result : tie.Need-float-from-bits-result
-float-from-bits-result c = no (nanBits-above binary32 (c .before .args .bits) ∙ le-ltb _ _ (c .if1 .left))
+float-from-bits-result c = known-not (nanBits-above binary32 (c .before .args .bits) ∙ le-ltb _ _ (c .if1 .left))
 
 returns-2 : tie.Need-returns-2
 returns-2 c = refl

@@ -7,18 +7,18 @@ use lib.Ieee.Fits.{and-i, fits-widens}
 use lib.Ieee.Compare.{differs-from-itself}
 use borrow.Author.Needs.{needs}
 use Rattle.float.specs.Calls.{floor}
-use Rattle.float.specs.Known.{yes}
+use Rattle.float.specs.Known.{known}
 use Rattle.float.specs.Widen.{floor-fits, floor-widens, floor-number, nan-stays}
 use Rattle.float.specs.Choice.{equals-itself}
 use Rattle.float.proofs.floor_f32.Statement.{statement}
 use Rattle.float.proofs.floor_f32.Tie as tie
 
 held : (c : tie.Start) → T (fits binary32 (c .args .x))
-held c = yes (c .good .0 .1)
+held c = known (c .good .0 .1)
 
 returns : tie.Need-returns
 returns c =
-    let e = differs-from-itself (c .before .args .x) (yes (c .if1 .taken)) in
+    let e = differs-from-itself (c .before .args .x) (known (c .if1 .taken)) in
     e ∙ sym (nan-stays binary32) ∙ ap (λ (z : Float). floor binary32 z) (sym e)
 
 float-to-float-floor-f64 : tie.Need-float-to-float-floor-f64

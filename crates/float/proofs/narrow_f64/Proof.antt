@@ -3,7 +3,7 @@ use mathlib.Core.Path.{ap, _∙_}
 use lib.Ieee.{neg, ofBits, div}
 use borrow.Author.Needs.{needs}
 use Rattle.float.specs.Calls.{narrow}
-use Rattle.float.specs.Known.{yes}
+use Rattle.float.specs.Known.{known}
 use Rattle.float.specs.Whole.{neg-neg}
 use Rattle.float.specs.Narrow.{narrow-neg, narrow-zero, narrow-nan, above-turned}
 use Rattle.float.proofs.narrow_f64.Statement.{statement}
@@ -11,11 +11,11 @@ use Rattle.float.proofs.narrow_f64.Tie as tie
 
 narrow-above-zero-requires : tie.Need-narrow-above-zero-requires
 unfolding ofBits
-narrow-above-zero-requires c κs = yes (c .if1 .taken)
+narrow-above-zero-requires c κs = known (c .if1 .taken)
 
 narrow-above-zero-requires-2 : tie.Need-narrow-above-zero-requires-2
 unfolding ofBits
-narrow-above-zero-requires-2 c κs = above-turned (c .before .before .args .x) (yes (c .if2 .taken))
+narrow-above-zero-requires-2 c κs = above-turned (c .before .before .args .x) (known (c .if2 .taken))
 
 returns-2 : tie.Need-returns-2
 returns-2 c =
@@ -26,13 +26,13 @@ float-to-float-result : tie.Need-float-to-float-result
 unfolding ofBits
 float-to-float-result c =
     let at = c .before .before .before .before in
-    narrow-zero (at .args .x) (yes (at .good .0 .1)) (c .before .if3 .taken) .0
+    narrow-zero (at .args .x) (known (at .good .0 .1)) (c .before .if3 .taken) .0
 
 returns-3 : tie.Need-returns-3
 unfolding ofBits
 returns-3 c =
     let at = c .before .before .before .before in
-    narrow-zero (at .args .x) (yes (at .good .0 .1)) (c .before .if3 .taken) .1
+    narrow-zero (at .args .x) (known (at .good .0 .1)) (c .before .if3 .taken) .1
 
 returns-4 : tie.Need-returns-4
 unfolding ofBits div

@@ -8,13 +8,13 @@ use lib.Dec.{T}
 use lib.Ieee.{Float, inf, binary32, binary64, add, sub, lt, fits, isNan, ofBits, nanBits}
 use borrow.Author.Needs.{needs}
 use Rattle.float.specs.Base.{two-to}
-use Rattle.float.specs.Known.{yes}
+use Rattle.float.specs.Known.{known}
 use Rattle.float.specs.Narrow.{Narrowed, narrowed, stepped, positive-no-nan}
 use Rattle.float.proofs.narrow_in_range.Statement.{statement}
 use Rattle.float.proofs.narrow_in_range.Tie as tie
 
 law : (c : tie.After-at-least) → Narrowed (c .before .args .x) (c .at-least .result)
-law c = narrowed (c .before .args .x) (c .at-least .result) (yes (c .before .good .0 .1)) (c .before .pre .0) (c .before .pre .1) (c .at-least .ensures)
+law c = narrowed (c .before .args .x) (c .at-least .result) (known (c .before .good .0 .1)) (c .before .pre .0) (c .before .pre .1) (c .at-least .ensures)
 
 -- the shift drops nothing
 whole-shift : (e : ℕ) → e ≤ 1150 → (e + 29) * 2 ^ 52 % 2 ^ 64 ≡ (e + 29) * 2 ^ 52

@@ -7,14 +7,13 @@ use native.Mathlib.Omega.{arith}
 use Rattle.seq.specs.Tab.{prefix-all}
 use Rattle.seq.specs.Lists.{tab}
 use Rattle.dct.specs.Grid.{grid}
-use Rattle.dct.specs.Matrix.{entry, turnedEntry}
-use Rattle.plane.specs.Plane.{votesOf}
-use Rattle.plane.specs.Blocks.{FirstVotes}
+use Rattle.dct.specs.Matrix.{dctEntry, dctTurned}
+use Rattle.plane.specs.Plane.{votesOf, FirstVotes}
 use Rattle.plane.proofs.block_soft.Statement.{statement}
 use Rattle.plane.proofs.block_soft.Tie as tie
 
 abbrev Inv-loop : tie.InvT-loop
-Inv-loop plane matrix turned votes₀ group₀ votes group = (group ≤ 256) × (matrix ≡ grid entry) × (turned ≡ grid turnedEntry) × FirstVotes plane (4 * group) votes
+Inv-loop plane matrix turned votes₀ group₀ votes group = (group ≤ 256) × (matrix ≡ grid dctEntry) × (turned ≡ grid dctTurned) × FirstVotes plane (4 * group) votes
 
 abbrev μ-loop : tie.MeasureT-loop
 μ-loop plane matrix turned votes₀ group₀ votes group = 256 - group

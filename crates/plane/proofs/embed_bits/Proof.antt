@@ -7,13 +7,14 @@ use native.Mathlib.Omega.{arith}
 use denote.Ref.{now}
 use lib.ListN.{length}
 use Rattle.dct.specs.Grid.{grid}
-use Rattle.dct.specs.Matrix.{entry, turnedEntry}
-use Rattle.plane.specs.Blocks.{changedFrom, changed-none, changed-on, changed-all}
+use Rattle.dct.specs.Matrix.{dctEntry, dctTurned}
+use Rattle.plane.specs.Plane.{changedFrom}
+use Rattle.plane.specs.Blocks.{changed-none, changed-on, all-changed}
 use Rattle.plane.proofs.embed_bits.Statement.{statement}
 use Rattle.plane.proofs.embed_bits.Tie as tie
 
 abbrev Inv-loop : tie.InvT-loop
-Inv-loop plane₀ bits matrix turned group₀ plane group = (group ≤ 256) × (matrix ≡ grid entry) × (turned ≡ grid turnedEntry) × (length plane ≡ length plane₀) × (plane ≡ changedFrom bits 0 (4 * group) plane₀)
+Inv-loop plane₀ bits matrix turned group₀ plane group = (group ≤ 256) × (matrix ≡ grid dctEntry) × (turned ≡ grid dctTurned) × (length plane ≡ length plane₀) × (plane ≡ changedFrom bits 0 (4 * group) plane₀)
 
 abbrev μ-loop : tie.MeasureT-loop
 μ-loop plane₀ bits matrix turned group₀ plane group = 256 - group
@@ -40,7 +41,7 @@ returns c =
     let l = c .before .loop in
     let start = c .before .before .before .before .before in
     let e : l .group ≡ 256 = omega arith in
-    (rw e at (l .inv .4)) ∙ changed-all (now (start .args .bits)) (now (start .args .plane)) (start .pre)
+    (rw e at (l .inv .4)) ∙ all-changed (now (start .args .bits)) (now (start .args .plane)) (start .pre)
 
 pub embed-bits-spec : {M : Type 1} → statement M
 embed-bits-spec =

@@ -8,8 +8,8 @@ use denote.Ref.{now}
 use lib.ListN.{length, getD}
 use lib.Ieee.{Float}
 use Rattle.block.specs.Plane.{storedOf}
-use Rattle.plane.specs.Plane.{ditherFour, blockChange}
-use Rattle.plane.specs.Blocks.{changedBlock, changedFrom, changed-none, changed-more, four-of-group}
+use Rattle.plane.specs.Plane.{ditherFour, blockChange, changedBlock, changedFrom}
+use Rattle.plane.specs.Blocks.{changed-none, changed-more, four-of-group}
 use Rattle.plane.proofs.embed_four.Statement.{statement}
 use Rattle.plane.proofs.embed_four.Tie as tie
 

@@ -9,8 +9,8 @@ use denote.Ref.{now}
 use lib.ListN.{length, length-set}
 use lib.Ieee.{Float}
 use Rattle.block.specs.Plane.{loadOf}
-use Rattle.plane.specs.Plane.{blockVote}
-use Rattle.plane.specs.Blocks.{voteAt, FirstVotes, votes-more, four-of-group}
+use Rattle.plane.specs.Plane.{blockVote, planeVote, FirstVotes}
+use Rattle.plane.specs.Blocks.{votes-more, four-of-group}
 use Rattle.plane.proofs.four_votes.Statement.{statement}
 use Rattle.plane.proofs.four_votes.Tie as tie
 
@@ -29,7 +29,7 @@ loop-again c =
     let start = c .before .before .before .before .before .before in
     let b = 4 * start .args .group + l .k in
     let K : l .k < 4 = omega arith in
-    let v : c .vote .result ≡ voteAt (now (start .args .plane)) b =
+    let v : c .vote .result ≡ planeVote (now (start .args .plane)) b =
     c .vote .ensures ∙ ap (λ (u : List Float). blockVote u (loadOf (now (start .args .plane)) b)) (c .before .four .ensures ∙ four-of-group _ _ _ K (start .pre .0 .2)) in
     (omega arith, simp length-set (l .inv .1), rw (← add-assoc) (votes-more _ _ _ _ (omega arith) v (l .inv .2)))
 

@@ -4,7 +4,7 @@ use native.Mathlib.Omega.{arith}
 use lib.ListN.{length}
 use Rattle.seq.specs.Tab.{length-tab}
 use Rattle.resample.specs.Kept.{part-size}
-use Rattle.resample_down.specs.Narrowing.{narrow-length}
+use Rattle.resample_down.specs.Rows.{narrow-length}
 use Rattle.resample_down.proofs.add_picture_row.Statement.{statement}
 use Rattle.resample_down.proofs.add_picture_row.Tie as tie
 

@@ -9,7 +9,8 @@ use mir.ValLaws.{toZ-ofZ}
 use Rattle.resample_window.specs.Window.{numbers, tapsTo}
 use Rattle.resample_window.specs.Signed.{small-fits, clamp-below}
 use Rattle.resample.specs.Samples.{narrowRow}
-use Rattle.resample.specs.Sums.{sumRows, length-sum, counted, turn-small, turn-with, turn-without}
+use Rattle.resample.specs.Resampled.{sumRows}
+use Rattle.resample.specs.Sums.{length-sumRows, window-counted, turn-small, turn-with, turn-without}
 use Rattle.resample_down.specs.Narrowing.{Narrowing}
 use borrow.Author.Needs.{needs}
 use Rattle.resample_down.proofs.add_window.Statement.{statement}
@@ -27,7 +28,7 @@ unfolding tapsTo
 loop-holds c = let p = c .before .before .before .before .before .before .before .before .before .before .before .before .pre in (omega arith, p .0, p .2)
 
 less : (c : tie.In-loop Inv-loop μ-loop) → c .before .loop .k < numbers (c .before .before .before .before .before .before .before .before .before .before .before .before .before .before .args .w .first) (c .before .before .before .before .before .before .before .before .before .before .before .before .before .before .args .w .last)
-less c = rw (← counted (c .before .before .before .before .before .before .before .before .before .before .before .before .before .before .args .w) (c .before .before .before .before .before .before .before .before .before .before .before .before .before .before .pre .1) (c .before .before .count .result) (c .before .before .count .ensures)) (c .loop-test .taken)
+less c = rw (← window-counted (c .before .before .before .before .before .before .before .before .before .before .before .before .before .before .args .w) (c .before .before .before .before .before .before .before .before .before .before .before .before .before .before .pre .1) (c .before .before .count .result) (c .before .before .count .ensures)) (c .loop-test .taken)
 
 nth-requires : tie.Need-nth-requires Inv-loop μ-loop
 nth-requires c κs =
@@ -56,7 +57,7 @@ add-picture-row-requires c κs =
     let at = c .before .before .before .before .before .before .before .before .before .before .before .loop in
     let clamped = c .before .before .before .before .clamp in
     let i : clamped .result < p .args .height = rw (clamped .ensures) (clamp-below (toZ w64 (ofZ w64 (c .before .before .before .before .before .before .before .before .before .nth .result))) (p .args .height) (p .pre .0 .sized .high)) in
-    (at .inv .1, i, ap length (at .inv .2) ∙ length-sum 256 _ _)
+    (at .inv .1, i, ap length (at .inv .2) ∙ length-sumRows 256 _ _)
 
 loop-less-2 : tie.Need-loop-less-2 Inv-loop μ-loop
 loop-less-2 c = omega (arith, c .before .before .before .before .before .before .before .before .before .before .before .before .before .before .before .before .before .before .before .loop-test .taken)
@@ -83,13 +84,13 @@ same-length-3 : tie.Need-same-length-3 Inv-loop μ-loop
 same-length-3 c = c .before .loop .inv .1 .kept .held-room ∙ sym (c .before .before .before .before .before .before .before .before .before .before .before .before .before .before .pre .0 .kept .held-room)
 
 same-length-4 : tie.Need-same-length-4 Inv-loop μ-loop
-same-length-4 c = ap length (c .before .loop .inv .2) ∙ (length-sum 256 _ _ ∙ (sym (length-sum 256 _ _) ∙ ap length (sym (c .before .before .before .before .before .before .before .before .before .before .before .before .before .before .pre .2))))
+same-length-4 c = ap length (c .before .loop .inv .2) ∙ (length-sumRows 256 _ _ ∙ (sym (length-sumRows 256 _ _) ∙ ap length (sym (c .before .before .before .before .before .before .before .before .before .before .before .before .before .before .pre .2))))
 
 returns : tie.Need-returns Inv-loop μ-loop
 returns c =
     let p = c .before .before .before .before .before .before .before .before .before .before .before .before .before .before in
     let at = c .before .loop in
-    let e : at .k ≡ numbers (p .args .w .first) (p .args .w .last) = omega (arith, counted (p .args .w) (p .pre .1) (c .before .before .count .result) (c .before .before .count .ensures)) in
+    let e : at .k ≡ numbers (p .args .w .first) (p .args .w .last) = omega (arith, window-counted (p .args .w) (p .pre .1) (c .before .before .count .result) (c .before .before .count .ensures)) in
     (at .inv .1, rw e at (at .inv .2))
 
 pub add-window-spec : {M : Type 1} → statement M

@@ -10,7 +10,7 @@ use lib.Ieee.{Float}
 use Rattle.seq.specs.Lists.{onPart}
 use Rattle.resample.specs.Kept.{part-size, kept-here, kept-new}
 use Rattle.resample_four.specs.Four.{narrowFour}
-use Rattle.resample_down.specs.Narrowing.{four-length, row-among, line-kept}
+use Rattle.resample_down.specs.Rows.{four-length, row-among, line-kept}
 use borrow.Author.Needs.{needs}
 use Rattle.resample_down.proofs.keep.Statement.{statement}
 use Rattle.resample_down.proofs.keep.Tie as tie

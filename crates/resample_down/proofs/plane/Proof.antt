@@ -7,7 +7,7 @@ use lib.Ieee.{ofBits}
 use Rattle.float.specs.Base.{zero+}
 use Rattle.resample.specs.Kept.{kept-empty}
 use Rattle.resample_four.specs.Four.{narrowFour}
-use Rattle.resample.specs.Tables.{tables-made, room-down}
+use Rattle.resample.specs.Taps.{tables-made, room-down}
 use borrow.Author.Needs.{needs}
 use Rattle.resample_down.proofs.plane.Statement.{statement}
 use Rattle.resample_down.proofs.plane.Tie as tie

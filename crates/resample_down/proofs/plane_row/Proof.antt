@@ -5,8 +5,9 @@ use lib.Ieee.{ofBits}
 use Rattle.float.specs.Base.{zero+}
 use Rattle.resample_window.specs.Taps.{window-small, taps-of}
 use Rattle.resample.specs.Samples.{narrowRow}
-use Rattle.resample.specs.Sums.{sumRows, sum-none, length-sum}
-use Rattle.resample_down.specs.Narrowing.{plane-of}
+use Rattle.resample.specs.Resampled.{sumRows}
+use Rattle.resample.specs.Sums.{sumRows-none, length-sumRows}
+use Rattle.resample_down.specs.Rows.{plane-of}
 use borrow.Author.Needs.{needs}
 use Rattle.resample_down.proofs.plane_row.Statement.{statement}
 use Rattle.resample_down.proofs.plane_row.Tie as tie
@@ -17,7 +18,7 @@ add-window-requires c κs =
     let p = c .before .before .before .before .before .before .before .before .before .before .before .before .before .before .before .before .before .before in
     let a = p .args in
     let made = c .before .before .before .before .new in
-    (p .pre .0, window-small (made .result) (a .height) 256 (a .y) (made .ensures), c .before .before .before .before .before .before .before .zero-floats .ensures ∙ (ap (λ n. replicate n zero+) (p .pre .1) ∙ sum-none 256 (narrowRow (a .width) (a .channels) (a .samples .now))))
+    (p .pre .0, window-small (made .result) (a .height) 256 (a .y) (made .ensures), c .before .before .before .before .before .before .before .zero-floats .ensures ∙ (ap (λ n. replicate n zero+) (p .pre .1) ∙ sumRows-none 256 (narrowRow (a .width) (a .channels) (a .samples .now))))
 
 same-length : tie.Need-same-length
 same-length c = c .before .before .before .before .before .before .before .before .add-window .ensures .0 .line-room ∙ sym (c .before .before .before .before .before .before .before .before .before .before .before .before .before .before .before .before .before .before .before .before .before .before .before .before .before .before .before .pre .0 .line-room)
@@ -29,7 +30,7 @@ same-length-3 : tie.Need-same-length-3
 same-length-3 c = c .before .before .before .before .before .before .before .before .add-window .ensures .0 .kept .held-room ∙ sym (c .before .before .before .before .before .before .before .before .before .before .before .before .before .before .before .before .before .before .before .before .before .before .before .before .before .before .before .pre .0 .kept .held-room)
 
 same-length-4 : tie.Need-same-length-4
-same-length-4 c = ap length (c .before .before .before .before .before .before .before .before .add-window .ensures .1) ∙ (length-sum 256 _ _ ∙ sym (c .before .before .before .before .before .before .before .before .before .before .before .before .before .before .before .before .before .before .before .before .before .before .before .before .before .before .before .pre .1))
+same-length-4 c = ap length (c .before .before .before .before .before .before .before .before .add-window .ensures .1) ∙ (length-sumRows 256 _ _ ∙ sym (c .before .before .before .before .before .before .before .before .before .before .before .before .before .before .before .before .before .before .before .before .before .before .before .before .before .before .before .pre .1))
 
 returns : tie.Need-returns
 returns c =

@@ -12,7 +12,8 @@ use Rattle.seq.specs.Part.{length-onPart}
 use Rattle.resample.specs.Samples.{planeRow, planeOf}
 use Rattle.resample.specs.Pixels.{part-pasted}
 use Rattle.resample.specs.Kept.{part-size}
-use Rattle.resample_down.specs.Narrowing.{Narrowing, plane-length}
+use Rattle.resample_down.specs.Narrowing.{Narrowing}
+use Rattle.resample_down.specs.Rows.{plane-length}
 use borrow.Author.Needs.{needs}
 use Rattle.resample_down.proofs.plane_rows.Statement.{statement}
 use Rattle.resample_down.proofs.plane_rows.Tie as tie

@@ -6,7 +6,7 @@ use lib.ListN.{length, length-set}
 use denote.Ref.{now}
 use Rattle.seq.specs.Tab.{filled-none}
 use Rattle.seq.specs.Lists.{filled}
-use Rattle.resample_four.specs.Four.{beside, one}
+use Rattle.resample_four.specs.Four.{beside, ofFour}
 use Rattle.resample_four.specs.Laws.{filled-four}
 use Rattle.resample.specs.Samples.{lumaAt}
 use Rattle.resample.specs.Pixels.{pixel-fits}
@@ -15,7 +15,7 @@ use Rattle.resample_four.proofs.luma_four.Statement.{statement}
 use Rattle.resample_four.proofs.luma_four.Tie as tie
 
 abbrev Inv-loop : tie.InvT-loop
-Inv-loop a b c d width channels shares line₀ x₀ line x = (x ≤ width) × (length line ≡ length line₀) × (line ≡ filled (beside (λ l. lumaAt channels (one a b c d l))) (4 * x) line₀)
+Inv-loop a b c d width channels shares line₀ x₀ line x = (x ≤ width) × (length line ≡ length line₀) × (line ≡ filled (beside (λ l. lumaAt channels (ofFour a b c d l))) (4 * x) line₀)
 
 abbrev μ-loop : tie.MeasureT-loop
 μ-loop a b c d width channels shares line₀ x₀ line x = width - x
@@ -46,7 +46,7 @@ put-four-requires : tie.Need-put-four-requires Inv-loop μ-loop
 put-four-requires c κs = let less : c .before .before .before .before .before .before .loop .x < c .before .before .before .before .before .before .before .before .before .before .before .before .before .args .width = c .before .before .before .before .before .loop-test .taken in omega arith
 
 loop-again : tie.Need-loop-again Inv-loop μ-loop
-unfolding one
+unfolding ofFour
 loop-again c =
     let a = c .before .before .before .before .before .before .before .before .before .before .before .before .before .before .before .before .args in
     let at = c .before .before .before .before .before .before .before .before .before .loop in
@@ -54,7 +54,7 @@ loop-again c =
     let put = c .before .before .put-four .ensures in
     let less : at .x < a .width = c .before .before .before .before .before .before .before .before .loop-test .taken in
     let four =
-    filled-four (λ l. lumaAt (a .channels) (one (now (a .a)) (now (a .b)) (now (a .c)) (now (a .d)) l)) (at .x) line (c .before .before .before .before .before .before .before .luma-from .result) (c .before .before .before .before .before .before .luma-from2 .result) (c .before .before .before .before .before .luma-from3 .result) (c .before .before .before .before .luma-from4 .result) (omega (arith, c .before .before .before .before .before .before .before .before .before .before .before .before .before .before .before .before .pre .2))
+    filled-four (λ l. lumaAt (a .channels) (ofFour (now (a .a)) (now (a .b)) (now (a .c)) (now (a .d)) l)) (at .x) line (c .before .before .before .before .before .before .before .luma-from .result) (c .before .before .before .before .before .before .luma-from2 .result) (c .before .before .before .before .before .luma-from3 .result) (c .before .before .before .before .luma-from4 .result) (omega (arith, c .before .before .before .before .before .before .before .before .before .before .before .before .before .before .before .before .pre .2))
     (c .before .before .before .before .before .before .before .luma-from .ensures) (c .before .before .before .before .before .before .luma-from2 .ensures) (c .before .before .before .before .before .luma-from3 .ensures) (c .before .before .before .before .luma-from4 .ensures) in
     (omega arith, rw (put, length-set, length-set, length-set, length-set) (at .inv .1), rw (put, at .inv .2) four)
 

@@ -10,7 +10,8 @@ use Rattle.float.specs.Base.{zero-}
 use Rattle.resample_window.specs.Window.{start}
 use Rattle.resample_window.specs.Taps.{start-rises}
 use Rattle.resample.specs.Resampled.{across}
-use Rattle.resample.specs.Tables.{Tables, soFar, offset-at, place-fits, from-inside, none-yet, one-more, all-there}
+use Rattle.resample.specs.Tables.{Tables}
+use Rattle.resample.specs.Taps.{soFar, offset-at, place-fits, from-inside, none-yet, one-more, all-there}
 use Rattle.resample_four.specs.Four.{lane}
 use borrow.Author.Needs.{needs}
 use Rattle.resample_four.proofs.values_across.Statement.{statement}

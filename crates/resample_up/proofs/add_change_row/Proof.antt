@@ -4,7 +4,7 @@ use native.Mathlib.Omega.{arith}
 use lib.ListN.{length}
 use Rattle.seq.specs.Tab.{length-tab}
 use Rattle.resample.specs.Kept.{part-size}
-use Rattle.resample_up.specs.Widening.{wide-length}
+use Rattle.resample_up.specs.Rows.{wide-length}
 use Rattle.resample_up.proofs.add_change_row.Statement.{statement}
 use Rattle.resample_up.proofs.add_change_row.Tie as tie
 

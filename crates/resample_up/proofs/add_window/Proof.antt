@@ -9,7 +9,8 @@ use mir.ValLaws.{toZ-ofZ}
 use Rattle.resample_window.specs.Window.{numbers, tapsTo}
 use Rattle.resample_window.specs.Signed.{small-fits, clamp-below}
 use Rattle.resample.specs.Samples.{wideRow}
-use Rattle.resample.specs.Sums.{sumRows, length-sum, counted, turn-small, turn-with, turn-without}
+use Rattle.resample.specs.Resampled.{sumRows}
+use Rattle.resample.specs.Sums.{length-sumRows, window-counted, turn-small, turn-with, turn-without}
 use Rattle.resample_up.specs.Widening.{Widening}
 use borrow.Author.Needs.{needs}
 use Rattle.resample_up.proofs.add_window.Statement.{statement}
@@ -27,7 +28,7 @@ unfolding tapsTo
 loop-holds c = let p = c .before .before .before .before .before .before .before .before .before .before .pre in (omega arith, p .0, p .2, refl)
 
 less : (c : tie.In-loop Inv-loop μ-loop) → c .before .loop .k < numbers (c .before .before .before .before .before .before .before .before .before .before .before .before .args .w .first) (c .before .before .before .before .before .before .before .before .before .before .before .before .args .w .last)
-less c = rw (← counted (c .before .before .before .before .before .before .before .before .before .before .before .before .args .w) (c .before .before .before .before .before .before .before .before .before .before .before .before .pre .1) (c .before .before .count .result) (c .before .before .count .ensures)) (c .loop-test .taken)
+less c = rw (← window-counted (c .before .before .before .before .before .before .before .before .before .before .before .before .args .w) (c .before .before .before .before .before .before .before .before .before .before .before .before .pre .1) (c .before .before .count .result) (c .before .before .count .ensures)) (c .loop-test .taken)
 
 nth-requires : tie.Need-nth-requires Inv-loop μ-loop
 nth-requires c κs =
@@ -71,7 +72,7 @@ loop-again-2 c =
     let clamped = c .before .before .before .before .before .before .before .before .before .before .clamp in
     let added = c .before .before .before .before .before .before .add-change-row in
     let more = (rw (at .inv .3) at (added .ensures .1)) ∙ turn-with (a .w) (p .pre .1) (at .k) (less (c .before .before .before .before .before .before .before .before .before .before .before .before .before .before .before .before)) (nth .result) (nth .ensures) (weighed .result) (weighed .ensures) 256 n row (at .sum) (at .inv .2) (told .0 .0) (clamped .result) (told .1) (clamped .ensures) in
-    (omega (arith, c .before .before .before .before .before .before .before .before .before .before .before .before .before .before .before .before .loop-test .taken), rw (at .inv .3) at (added .ensures .0), more, ap length more ∙ length-sum n row _)
+    (omega (arith, c .before .before .before .before .before .before .before .before .before .before .before .before .before .before .before .before .loop-test .taken), rw (at .inv .3) at (added .ensures .0), more, ap length more ∙ length-sumRows n row _)
 
 same-length : tie.Need-same-length Inv-loop μ-loop
 same-length c = c .before .loop .inv .1 .kept .rows-room ∙ sym (c .before .before .before .before .before .before .before .before .before .before .before .before .pre .0 .kept .rows-room)
@@ -86,7 +87,7 @@ returns : tie.Need-returns Inv-loop μ-loop
 returns c =
     let p = c .before .before .before .before .before .before .before .before .before .before .before .before in
     let at = c .before .loop in
-    let e : at .k ≡ numbers (p .args .w .first) (p .args .w .last) = omega (arith, counted (p .args .w) (p .pre .1) (c .before .before .count .result) (c .before .before .count .ensures)) in
+    let e : at .k ≡ numbers (p .args .w .first) (p .args .w .last) = omega (arith, window-counted (p .args .w) (p .pre .1) (c .before .before .count .result) (c .before .before .count .ensures)) in
     (at .inv .1, rw e at (at .inv .2))
 
 pub add-window-spec : {M : Type 1} → statement M

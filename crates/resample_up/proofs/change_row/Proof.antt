@@ -6,8 +6,9 @@ use lib.Ieee.{binary32, ofBits}
 use Rattle.float.specs.Base.{zero+}
 use Rattle.resample_window.specs.Taps.{window-small, taps-of}
 use Rattle.resample.specs.Samples.{wideRow}
-use Rattle.resample.specs.Sums.{sumRows, sum-none, length-sum}
-use Rattle.resample_up.specs.Widening.{change-of}
+use Rattle.resample.specs.Resampled.{sumRows}
+use Rattle.resample.specs.Sums.{sumRows-none, length-sumRows}
+use Rattle.resample_up.specs.Rows.{change-of}
 use borrow.Author.Needs.{needs}
 use Rattle.resample_up.proofs.change_row.Statement.{statement}
 use Rattle.resample_up.proofs.change_row.Tie as tie
@@ -24,7 +25,7 @@ add-window-requires c κs =
     let p = c .before .before .before .before .before .before .before .before .before .before .before .before .before .before .before in
     let n = length (p .args .out .now) in
     let made = c .before .before .before .new in
-    rw (zeroed (c .before .before .before .before .before .before)) (p .pre, window-small (made .result) 256 (p .args .height) (p .args .y) (made .ensures), c .before .before .before .before .before .before .zero-floats .ensures ∙ (zeros n ∙ sum-none n (wideRow n (p .args .change .now))))
+    rw (zeroed (c .before .before .before .before .before .before)) (p .pre, window-small (made .result) 256 (p .args .height) (p .args .y) (made .ensures), c .before .before .before .before .before .before .zero-floats .ensures ∙ (zeros n ∙ sumRows-none n (wideRow n (p .args .change .now))))
 
 same-length : tie.Need-same-length
 same-length c = c .before .before .before .before .before .before .add-window .ensures .0 .kept .rows-room ∙ sym (c .before .before .before .before .before .before .before .before .before .before .before .before .before .before .before .before .before .before .before .before .before .before .pre .kept .rows-room)
@@ -33,7 +34,7 @@ same-length-2 : tie.Need-same-length-2
 same-length-2 c = c .before .before .before .before .before .before .add-window .ensures .0 .kept .held-room ∙ sym (c .before .before .before .before .before .before .before .before .before .before .before .before .before .before .before .before .before .before .before .before .before .before .pre .kept .held-room)
 
 same-length-3 : tie.Need-same-length-3
-same-length-3 c = ap length (c .before .before .before .before .before .before .add-window .ensures .1) ∙ (length-sum _ _ _ ∙ zeroed (c .before .before .before .before .before .before .before .before .before .before .before .before .before))
+same-length-3 c = ap length (c .before .before .before .before .before .before .add-window .ensures .1) ∙ (length-sumRows _ _ _ ∙ zeroed (c .before .before .before .before .before .before .before .before .before .before .before .before .before))
 
 returns : tie.Need-returns
 returns c =

@@ -8,8 +8,9 @@ use Rattle.seq.specs.Lists.{onPart}
 use Rattle.resample.specs.Samples.{changeRow, changedRow}
 use Rattle.resample.specs.Kept.{part-size}
 use Rattle.resample.specs.Pixels.{row-inside, part-row, length-row}
-use Rattle.resample_up.specs.Widening.{Widening, change-length}
-use Rattle.resample_up.specs.Changed.{changedRows, rows-none, rows-more, rows-length, rows-all}
+use Rattle.resample_up.specs.Widening.{Widening}
+use Rattle.resample_up.specs.Rows.{change-length}
+use Rattle.resample_up.specs.Changed.{changedRows, rows-none, changed-rows-more, changed-rows-length, rows-all}
 use borrow.Author.Needs.{needs}
 use Rattle.resample_up.proofs.change_rows.Statement.{statement}
 use Rattle.resample_up.proofs.change_rows.Tie as tie
@@ -76,13 +77,13 @@ loop-again c =
     let less : at .y < a .height = omega (arith, c .before .before .before .before .before .before .before .before .before .before .before .before .before .before .before .loop-test .taken, p .pre .1 .high) in
     let delta = made .last .1 .1 .1 .1 .1 .1 .1 .1 .0 in
     let is : delta ≡ changeRow (a .width) (a .height) (a .change .now) (at .y) = rw (at .inv .2) at (made .ensures .1) in
-    let more = rows-more (a .width) (a .height) (a .channels) (a .change .now) (a .samples .now) (p .pre .1 .full) (at .y) (at .samples) (written .last .0) delta less (at .inv .3) is
+    let more = changed-rows-more (a .width) (a .height) (a .channels) (a .change .now) (a .samples .now) (p .pre .1 .full) (at .y) (at .samples) (written .last .0) delta less (at .inv .3) is
     (written .ensures ∙ ap (changedRow (a .channels) (λ x. getD delta x nan)) (part-row n (at .samples) (at .y))) in (
       omega arith,
       rw (at .inv .2) at (made .ensures .0),
       ap length is ∙ change-length (a .width) (a .height) (a .change .now) (at .y),
       rw (part-size (at .y * n) n) more,
-      rw (part-size (at .y * n) n) (ap length more ∙ rows-length (a .width) (a .height) (a .channels) (a .change .now) (a .samples .now) (p .pre .1 .full) (at .y + 1) (omega arith)),
+      rw (part-size (at .y * n) n) (ap length more ∙ changed-rows-length (a .width) (a .height) (a .channels) (a .change .now) (a .samples .now) (p .pre .1 .full) (at .y + 1) (omega arith)),
     )
 
 same-length : tie.Need-same-length Inv-loop μ-loop

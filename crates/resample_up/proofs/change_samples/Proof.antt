@@ -8,7 +8,7 @@ use lib.Ieee.{ofBits}
 use Rattle.float.specs.Base.{zero+}
 use Rattle.resample.specs.Samples.{wideRow}
 use Rattle.resample.specs.Kept.{kept-empty}
-use Rattle.resample.specs.Tables.{tables-made, room-up}
+use Rattle.resample.specs.Taps.{tables-made, room-up}
 use borrow.Author.Needs.{needs}
 use Rattle.resample_up.proofs.change_samples.Statement.{statement}
 use Rattle.resample_up.proofs.change_samples.Tie as tie

@@ -8,7 +8,7 @@ use lib.Seq.{length-take-le}
 use Rattle.seq.specs.Lists.{onPart}
 use Rattle.resample.specs.Samples.{wideRow}
 use Rattle.resample.specs.Kept.{part-size, kept-here, kept-new}
-use Rattle.resample_up.specs.Widening.{wide-length}
+use Rattle.resample_up.specs.Rows.{wide-length}
 use borrow.Author.Needs.{needs}
 use Rattle.resample_up.proofs.keep.Statement.{statement}
 use Rattle.resample_up.proofs.keep.Tie as tie

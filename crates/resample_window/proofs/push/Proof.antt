@@ -11,17 +11,17 @@ use mir.Syntax.{w64}
 use mir.Val.{toZ, ofZ}
 use mir.ValLaws.{toZ-ofZ}
 use Rattle.resample_window.specs.declared.Weight.the-variants.{Of}
-use Rattle.resample_window.specs.Window.{Tap, numbers, weightOf, clampOf, tapsTo, tapsOf, sources, weights}
+use Rattle.resample_window.specs.Window.{Tap, numbers, weightOf, clampOf, tapsTo, tapsOf, tapSources, tapWeights}
 use Rattle.resample_window.specs.Taps.{laid-more}
 use Rattle.resample_window.specs.Signed.{small-fits, numbers-small, clamp-below}
-use Rattle.resample_window.specs.Steps.{passed, taps-none, taps-one, tap-at, tap-room}
+use Rattle.resample_window.specs.Steps.{passed, taps-without, taps-with, tap-at, tap-room}
 use borrow.Author.Needs.{needs}
 use Rattle.resample_window.proofs.push.Statement.{statement}
 use Rattle.resample_window.proofs.push.Tie as tie
 
 abbrev Inv-loop : tie.InvT-loop
 Inv-loop w src n index₀ weight₀ first last count at₀ k₀ index weight at k =
-    (k ≤ count) × (at ≡ n + length (tapsTo w src k)) × (index ≡ paste index₀ n (sources (tapsOf w src)) (length (tapsTo w src k))) × (weight ≡ paste weight₀ n (weights (tapsOf w src)) (length (tapsTo w src k))) × (length index ≡ length index₀) × (length weight ≡ length weight₀)
+    (k ≤ count) × (at ≡ n + length (tapsTo w src k)) × (index ≡ paste index₀ n (tapSources (tapsOf w src)) (length (tapsTo w src k))) × (weight ≡ paste weight₀ n (tapWeights (tapsOf w src)) (length (tapsTo w src k))) × (length index ≡ length index₀) × (length weight ≡ length weight₀)
 
 abbrev μ-loop : tie.MeasureT-loop
 μ-loop w src n index₀ weight₀ first last count at₀ k₀ index weight at k = count - k
@@ -36,7 +36,7 @@ loop-holds : tie.Need-loop-holds Inv-loop μ-loop
 unfolding tapsTo
 loop-holds c =
     let a = c .before .before .before .before .before .args in
-    (omega arith, sym (add-zero (a .n)), paste-zero (a .index .now) (a .n) (sources (tapsOf (a .w) (a .src))), paste-zero (a .weight .now) (a .n) (weights (tapsOf (a .w) (a .src))), refl, refl)
+    (omega arith, sym (add-zero (a .n)), paste-zero (a .index .now) (a .n) (tapSources (tapsOf (a .w) (a .src))), paste-zero (a .weight .now) (a .n) (tapWeights (tapsOf (a .w) (a .src))), refl, refl)
 
 small-k : (c : tie.In-loop Inv-loop μ-loop) → c .before .loop .k ≤ 2 ^ 32
 small-k c =
@@ -65,7 +65,7 @@ loop-again : tie.Need-loop-again Inv-loop μ-loop
 loop-again c =
     let a = c .before .before .before .before .before .before .before .before .before .before .before .args in
     let k = c .before .before .before .before .before .loop .k in
-    let e : tapsTo (a .w) (a .src) k ≡ tapsTo (a .w) (a .src) (k + 1) = taps-none (a .w) (a .src) k (sym (weighed (c .before .before)) ∙ c .enum-told .given .1) in
+    let e : tapsTo (a .w) (a .src) k ≡ tapsTo (a .w) (a .src) (k + 1) = taps-without (a .w) (a .src) k (sym (weighed (c .before .before)) ∙ c .enum-told .given .1) in
     let inv = c .before .before .before .before .before .loop .inv in
     (omega arith, rw (← e) (inv .1), rw (← e) (inv .2), rw (← e) (inv .3), inv .4, inv .5)
 
@@ -113,7 +113,7 @@ loop-again-2 c =
     let all = numbers (w .first) (w .last) in
     let t : Tap = record { from = clampOf (a .src) (w .first +ℤ pos (at .k)); weight = c .before .before .q .given .0 .0 } in
     let k : at .k < all = omega (arith, counted (c .before .before .before .before .before .before .before .before)) in
-    let one : length (tapsTo w (a .src) (at .k + 1)) ≡ m + 1 = ap length (taps-one w (a .src) (at .k) (t .weight) (weight-of c)) ∙ length-append (tapsTo w (a .src) (at .k)) (t ∷ []) in
+    let one : length (tapsTo w (a .src) (at .k + 1)) ≡ m + 1 = ap length (taps-with w (a .src) (at .k) (t .weight) (weight-of c)) ∙ length-append (tapsTo w (a .src) (at .k)) (t ∷ []) in
     let is : getD (tapsOf w (a .src)) m t ≡ t = tap-at w (a .src) (at .k) all (t .weight) t k (weight-of c) in
     let less : m < length (tapsOf w (a .src)) = tap-room w (a .src) (at .k) all (t .weight) k (weight-of c) in
     let from : c .clamp .result ≡ t .from = c .clamp .ensures ∙ ap (clampOf (a .src)) (number (c .before .before .before .before .before)) in (

@@ -5,7 +5,7 @@ use Prim.Native.Nat.{_^_}
 use native.Mathlib.Omega.{arith}
 use lib.Dec.{le→leb}
 use lib.Ieee.{inFloat, ofBits}
-use Rattle.resample_window.specs.Window.{scaleOf, centerOf, supportOf, unsummed, summed, windowOf, Small}
+use Rattle.resample_window.specs.Window.{scaleOf, centerOf, supportOf, unsummed, withSum, windowOf, Small}
 use Rattle.resample_window.specs.Range.{window-sized, first-small, last-small}
 use borrow.Author.Needs.{needs}
 use Rattle.resample_window.proofs.sample_window.Statement.{statement}
@@ -43,7 +43,7 @@ returns : tie.Need-returns
 returns c =
     let a = c .before .before .before .before .before .before .args in
     let p = c .before .before .before .before .before .before .pre in
-    c .summed .ensures ∙ (ap summed (is-unsummed (c .before)) ∙ sym (window-sized (a .src) (a .dst) (a .i) (p .0) (p .1) (p .2) (p .3) (p .4)))
+    c .summed .ensures ∙ (ap withSum (is-unsummed (c .before)) ∙ sym (window-sized (a .src) (a .dst) (a .i) (p .0) (p .1) (p .2) (p .3) (p .4)))
 
 pub sample-window-spec : {M : Type 1} → statement M
 sample-window-spec = tie.close (tie.spec int-to-float-scale int-to-float-scale-2 int-to-float-center (λ c κs. search needs) (λ c κs. search needs) summed-requires returns)

@@ -5,7 +5,7 @@ use native.Mathlib.Omega.{arith}
 use lib.ListN.{length, length-set}
 use Rattle.seq.specs.Tab.{filled-none, filled-more}
 use Rattle.seq.specs.Lists.{filled}
-use Rattle.resample_window.specs.Window.{tapsOf, taps, windowOf, start, sources, weights, allTaps, onto}
+use Rattle.resample_window.specs.Window.{tapsOf, taps, windowOf, start, tapSources, tapWeights, allTaps, onto}
 use Rattle.resample_window.specs.Taps.{window-small, taps-of, start-none, start-more, start-rises, all-none, all-pushed, all-length}
 use borrow.Author.Needs.{needs}
 use Rattle.resample_window.proofs.taps.Statement.{statement}
@@ -13,7 +13,7 @@ use Rattle.resample_window.proofs.taps.Tie as tie
 
 abbrev Inv-loop : tie.InvT-loop
 Inv-loop src dst offsets₀ index₀ weight₀ n₀ i₀ offsets index weight n i =
-    (i ≤ dst) × (n ≡ start src dst i) × (offsets ≡ filled (start src dst) i offsets₀) × (index ≡ onto (sources (allTaps src dst i)) index₀) × (weight ≡ onto (weights (allTaps src dst i)) weight₀)
+    (i ≤ dst) × (n ≡ start src dst i) × (offsets ≡ filled (start src dst) i offsets₀) × (index ≡ onto (tapSources (allTaps src dst i)) index₀) × (weight ≡ onto (tapWeights (allTaps src dst i)) weight₀)
     × (length offsets ≡ length offsets₀) × (length index ≡ length index₀) × (length weight ≡ length weight₀)
 
 abbrev μ-loop : tie.MeasureT-loop
@@ -53,8 +53,8 @@ loop-again c =
     let pushed = c .before .before .before .before .push in
     let w = c .before .before .before .before .before .before .before .new .result in
     let is : tapsOf w (a .src) ≡ taps (a .src) (a .dst) (at .i) = taps-of w (a .src) (a .dst) (at .i) (c .before .before .before .before .before .before .before .new .ensures) in
-    let from : pushed .last .1 .1 .1 .0 ≡ onto (sources (allTaps (a .src) (a .dst) (at .i + 1))) (a .index .now) = (rw (is, at .inv .1) at (pushed .ensures .1 .0)) ∙ all-pushed (λ t. t .from) (a .src) (a .dst) (at .i) (a .index .now) (at .index) (at .inv .3) in
-    let with : pushed .last .1 .1 .1 .1 .0 ≡ onto (weights (allTaps (a .src) (a .dst) (at .i + 1))) (a .weight .now) = (rw (is, at .inv .1) at (pushed .ensures .1 .1)) ∙ all-pushed (λ t. t .weight) (a .src) (a .dst) (at .i) (a .weight .now) (at .weight) (at .inv .4) in
+    let from : pushed .last .1 .1 .1 .0 ≡ onto (tapSources (allTaps (a .src) (a .dst) (at .i + 1))) (a .index .now) = (rw (is, at .inv .1) at (pushed .ensures .1 .0)) ∙ all-pushed (λ t. t .from) (a .src) (a .dst) (at .i) (a .index .now) (at .index) (at .inv .3) in
+    let with : pushed .last .1 .1 .1 .1 .0 ≡ onto (tapWeights (allTaps (a .src) (a .dst) (at .i + 1))) (a .weight .now) = (rw (is, at .inv .1) at (pushed .ensures .1 .1)) ∙ all-pushed (λ t. t .weight) (a .src) (a .dst) (at .i) (a .weight .now) (at .weight) (at .inv .4) in
     let room : start (a .src) (a .dst) (at .i + 1) ≤ length (a .index .now) = omega (arith, start-rises (a .src) (a .dst) (at .i + 1) (a .dst) (omega arith)) in (
       omega arith,
       (rw (is, at .inv .1) at (pushed .ensures .0)) ∙ sym (start-more (a .src) (a .dst) (at .i)),

@@ -10,7 +10,9 @@ use Rattle.resample_window.proofs.unsummed.Tie as tie
 returns : tie.Need-returns
 unfolding ofBits
 returns c =
-    rw (toZ-ofZ w64 (c .before .ceil-f64-to-i64 .result) (record { sfits = c .before .ceil-f64-to-i64 .ok }), toZ-ofZ w64 (c .floor-f64-to-i64 .result) (record { sfits = c .floor-f64-to-i64 .ok }), c .before .ceil-f64-to-i64 .ensures, c .floor-f64-to-i64 .ensures) refl
+    let low = c .before .ceil-f64-to-i64 in
+    let high = c .floor-f64-to-i64 in
+    rw (toZ-ofZ w64 (low .result) (record { sfits = low .ok }), toZ-ofZ w64 (high .result) (record { sfits = high .ok }), low .ensures, high .ensures) refl
 
 pub unsummed-spec : {M : Type 1} → statement M
 unsummed-spec = tie.close (tie.spec (λ c κs. search needs) (λ c κs. search needs) returns)

@@ -7,14 +7,14 @@ use native.Mathlib.Numerals.{add-one}
 use native.Mathlib.Omega.{arith}
 use lib.Ieee.{Float}
 use Rattle.dct.specs.Grid.{grid}
-use Rattle.dct.specs.Matrix.{entry, turnedEntry}
+use Rattle.dct.specs.Matrix.{dctEntry, dctTurned}
 use Rattle.comparison.specs.Blocks.{blockThereAndBack, thereAndBack}
 use Rattle.comparison.proofs.block8.vk_there_and_back.Statement.{statement}
 use Rattle.comparison.proofs.block8.vk_there_and_back.Tie as tie
 
 abbrev Inv-loop : tie.InvT-loop
 Inv-loop plane₀ matrix turned b₀ plane b =
-    (b ≤ 1024) × (matrix ≡ grid entry) × (turned ≡ grid turnedEntry) × (plane ≡ thereAndBack b plane₀)
+    (b ≤ 1024) × (matrix ≡ grid dctEntry) × (turned ≡ grid dctTurned) × (plane ≡ thereAndBack b plane₀)
 
 abbrev μ-loop : tie.MeasureT-loop
 μ-loop plane₀ matrix turned b₀ plane b = 1024 - b

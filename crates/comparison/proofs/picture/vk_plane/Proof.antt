@@ -8,7 +8,7 @@ use denote.Ref.{now}
 use lib.Ieee.{Float}
 use lib.ListN.{length}
 use Rattle.resample.specs.Samples.{planeOf}
-use Rattle.comparison.specs.Pictures.{plane-sized, plane-length}
+use Rattle.comparison.specs.Pictures.{plane-sized, plane-values}
 use Rattle.comparison.specs.Stages.{hasPlane, planeInto}
 use Rattle.comparison.proofs.picture.vk_plane.Statement.{statement}
 use Rattle.comparison.proofs.picture.vk_plane.Tie as tie
@@ -27,7 +27,7 @@ plane-requires c κs =
     let tested = c .before .before in
     let start = tested .before .before .before .args in
     let e : hasPlane (start .width) (start .height) (start .channels) (length (now (start .samples))) (length (now (start .plane))) ≡ true = rw (← tested .has-plane .ensures) (c .before .if1 .taken) in
-    (plane-sized (start .width) (start .height) (start .channels) (now (start .samples)) (length (now (start .plane))) e, plane-length (start .width) (start .height) (start .channels) (now (start .samples)) (length (now (start .plane))) e)
+    (plane-sized (start .width) (start .height) (start .channels) (now (start .samples)) (length (now (start .plane))) e, plane-values (start .width) (start .height) (start .channels) (now (start .samples)) (length (now (start .plane))) e)
 
 returns : tie.Need-returns
 returns c =

@@ -7,7 +7,8 @@ use lib.Ieee.{nan, neg, ofBits}
 use denote.Ref.{now}
 use Rattle.resample_window.specs.Window.{start}
 use Rattle.resample_window.specs.Taps.{start-rises}
-use Rattle.resample.specs.Tables.{Tables, soFar, offset-at, place-fits, from-inside, none-yet, one-more, all-there}
+use Rattle.resample.specs.Tables.{Tables}
+use Rattle.resample.specs.Taps.{soFar, offset-at, place-fits, from-inside, none-yet, one-more, all-there}
 use borrow.Author.Needs.{needs}
 use Rattle.resample.proofs.rows.value_across.Statement.{statement}
 use Rattle.resample.proofs.rows.value_across.Tie as tie

@@ -1,6 +1,6 @@
 -- Where there is a window it is `sample_window`'s, and else the empty one.
 use mathlib.Core.Path.{_∙_, sym}
-use Rattle.float.specs.Known.{yes}
+use Rattle.float.specs.Known.{known}
 use Rattle.resample_window.specs.Window.{windowOf}
 use Rattle.resample_window.specs.Range.{has-window}
 use borrow.Author.Needs.{needs}
@@ -10,7 +10,7 @@ use Rattle.resample_window.proofs.Window.new.Tie as tie
 sample-window-requires : tie.Need-sample-window-requires
 sample-window-requires c κs =
     let a = c .before .before .args in
-    has-window (a .src) (a .dst) (a .i) (yes (sym (c .before .has-window .ensures) ∙ c .if1 .taken))
+    has-window (a .src) (a .dst) (a .i) (known (sym (c .before .has-window .ensures) ∙ c .if1 .taken))
 
 returns : tie.Need-returns
 returns c = c .sample-window .ensures

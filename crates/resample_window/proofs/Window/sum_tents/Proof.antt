@@ -7,7 +7,7 @@ use lib.IntN.{pos, _+ℤ_}
 use lib.Ieee.{ofBits}
 use mir.Syntax.{w64}
 use mir.ValLaws.{toZ-ofZ}
-use Rattle.resample_window.specs.Window.{sumOf, tentOf, numbers}
+use Rattle.resample_window.specs.Window.{tentSum, tentOf, numbers}
 use Rattle.resample_window.specs.Signed.{small-fits, numbers-small}
 use Rattle.resample_window.specs.Steps.{passed, sum-with, sum-without}
 use borrow.Author.Needs.{needs}
@@ -15,7 +15,7 @@ use Rattle.resample_window.proofs.Window.sum_tents.Statement.{statement
 use Rattle.resample_window.proofs.Window.sum_tents.Tie as tie
 
 abbrev Inv-loop : tie.InvT-loop
-Inv-loop self first last count sum₀ k₀ sum k = (k ≤ count) × (sum ≡ sumOf self k)
+Inv-loop self first last count sum₀ k₀ sum k = (k ≤ count) × (sum ≡ tentSum self k)
 
 abbrev μ-loop : tie.MeasureT-loop
 μ-loop self first last count sum₀ k₀ sum k = count - k
@@ -28,7 +28,7 @@ counted c =
     rw (toZ-ofZ w64 (w .first) (small-fits (w .first) (small .0)), toZ-ofZ w64 (w .last) (small-fits (w .last) (small .1))) at (c .count .ensures)
 
 loop-holds : tie.Need-loop-holds Inv-loop μ-loop
-unfolding sumOf ofBits
+unfolding tentSum ofBits
 loop-holds c = (omega arith, refl)
 
 small-k : (c : tie.In-loop Inv-loop μ-loop) → c .before .loop .k ≤ 2 ^ 32
