@@ -12,6 +12,7 @@ use Rattle.refusal.specs.declared.Answer.the-variants.{Done, Refused}
 use Rattle.refusal.specs.Laws.{refused-not-done}
 use Rattle.picture.specs.declared.Picture.{Picture}
 use Rattle.admission.specs.Admission.{shorter, longer, roomOf, admission, writeAdmission, readAdmission}
+use Rattle.picture.specs.Sizes.{longestSide}
 
 -- ---- the sides
 
@@ -34,10 +35,10 @@ module _ (p : Picture) where
       go true a b = let h : p .width < p .height = a tt in (omega arith, omega arith)
       go false a b = let h : p .height ≤ p .width = b tt in (omega arith, omega arith)
 
-  pub pixels-most : longer p ≤ 8192 → p .width * p .height ≤ 8192 * 8192
+  pub pixels-most : longer p ≤ longestSide → p .width * p .height ≤ longestSide * longestSide
   pixels-most h =
-      let w : p .width ≤ 8192 = omega (arith, sides-most .0) in
-      let v : p .height ≤ 8192 = omega (arith, sides-most .1) in
+      let w : p .width ≤ longestSide = omega (arith, sides-most .0) in
+      let v : p .height ≤ longestSide = omega (arith, sides-most .1) in
       omega (arith, mul-le-mul-right (p .height) w)
 
 -- ---- the channels
@@ -58,8 +59,8 @@ past true r rest e = absurd (refused-not-done _ e)
 past false r rest e = (refl, e)
 
 pub record Admitted (parts : ℕ) (p : Picture) (samples work : ℕ) : Type 0 where
-  pub width-most : p .width ≤ 8192
-  pub height-most : p .height ≤ 8192
+  pub width-most : p .width ≤ longestSide
+  pub height-most : p .height ≤ longestSide
   pub three : 3 ≤ p .channels
   pub four : p .channels ≤ 4
   pub full : samples ≡ p .width * p .height * p .channels
@@ -72,7 +73,7 @@ admitted parts p samples work e =
     let channels = past _ _ _ (side .1) in
     let length = past _ _ _ (channels .1) in
     let work-area = past _ _ _ (length .1) in
-    let long : longer p ≤ 8192 = ltb-false 8192 (longer p) (side .0) in
+    let long : longer p ≤ longestSide = ltb-false longestSide (longer p) (side .0) in
     let c = three-or-four (p .channels) (not-false _ (channels .0)) in
     record {
       width-most = omega (arith, sides-most p .0);

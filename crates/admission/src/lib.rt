@@ -1,6 +1,9 @@
 // Whether a picture with its samples and a work area can be used: the limits on sides, channels, samples and work area,
 // with the refusals in their order. For `resilient`. From the scope, which specs/Admission.antt states.
+use picture::LONGEST;
+use picture::PLANE;
 use picture::Picture;
+use picture::SHORTEST_TO_WRITE;
 use refusal::Answer;
 use refusal::Refusal;
 ghost use mathlib.Core.Path.{_≡_};
@@ -8,14 +11,7 @@ ghost use mathlib.Core.Bool.{_||_};
 ghost use Prim.Native.Nat.{_*_, _≤_};
 ghost use lib.Dec.{eqb};
 ghost use Rattle.admission.specs.Admission.{shorter, longer, admission, writeAdmission, readAdmission};
-
-// The shorter side that writing needs, and the longest side.
-const SMALLEST: usize = 512;
-
-const LONGEST: usize = 8192;
-
-// Values of the plane.
-const PLANE: usize = 65536;
+ghost use Rattle.picture.specs.Sizes.{longestSide};
 
 fn shorter(p: Picture) -> usize
     ensures { λ r. ⌜ r ≡ shorter p ⌝ }
@@ -45,8 +41,8 @@ fn empty(p: Picture) -> bool
 
 // How many pixels a picture has whose sides are not too long.
 fn pixels(p: Picture) -> usize
-    requires { ⌜ longer p ≤ 8192 ⌝ }
-    ensures { λ r. ⌜ (r ≡ p .width * p .height) × (r ≤ 8192 * 8192) ⌝ }
+    requires { ⌜ longer p ≤ longestSide ⌝ }
+    ensures { λ r. ⌜ (r ≡ p .width * p .height) × (r ≤ longestSide * longestSide) ⌝ }
 {
     p.width * p.height
 }
@@ -81,7 +77,7 @@ pub fn may_write(p: Picture, samples: usize, work: usize) -> Answer
     ensures { λ r. ⌜ r ≡ writeAdmission p samples work ⌝ }
 {
     let side = shorter(p);
-    if side < SMALLEST {
+    if side < SHORTEST_TO_WRITE {
         return Answer::Refused(Refusal::ImageTooSmall(side));
     }
     admit(2, p, samples, work)

@@ -31,6 +31,7 @@ use Rattle.block.specs.Plane.{lineAt, loadOf}
 use Rattle.block.specs.Stored.{line-fits}
 use Rattle.block.specs.Mark.{coefficients, latticeStep, halfOf, markedOf, markedBlock}
 use Rattle.block.specs.Soft.{termOf, meanOfFour, voteOf}
+use Rattle.picture.specs.Sizes.{planeSize}
 
 abbrev pub EachWithin : List Float → ℕ → Type 0
 EachWithin x a = (r c : ℕ) → r < 8 → c < 8 → Within (cell x r c) a 1
@@ -273,7 +274,7 @@ module _ (u x : List Float) (bit n m k : ℕ) (B : bit ≤ 1) (N : 32 * (n + m) 
 -- ---- a plane from 8-bit samples, whose values are at most 2 ^ 20 in size
 
 -- its blocks
-pub load-within : (d : List Float) (a b : ℕ) → b < 1024 → ((p : ℕ) → p < 65536 → Within (getD d p nan) a 1) → EachWithin (loadOf d b) a
+pub load-within : (d : List Float) (a b : ℕ) → b < 1024 → ((p : ℕ) → p < planeSize → Within (getD d p nan) a 1) → EachWithin (loadOf d b) a
 unfolding loadOf
 load-within d a b B D r c R C = subst (λ (z : Float). Within z a 1) (sym (cell-grid (λ r c. getD d (lineAt b r + c) nan) r c R C)) (D (lineAt b r + c) (omega (arith, line-fits b r B R)))
 

@@ -13,8 +13,9 @@ use Rattle.seq.specs.Lines.{length-pasted, pasted-at, pasted-other}
 use Rattle.dct.specs.Columns.{grid-same, columns-all}
 use Rattle.dct.specs.Grid.{cell, blockLine}
 use Rattle.block.specs.Plane.{lineAt, loadOf, storedOf}
+use Rattle.picture.specs.Sizes.{blockCount, planeSize}
 
-pub line-fits : (b r : ℕ) → b < 1024 → r < 8 → lineAt b r + 8 ≤ 65536
+pub line-fits : (b r : ℕ) → b < blockCount → r < 8 → lineAt b r + 8 ≤ planeSize
 line-fits b r h k = omega arith
 
 wide : (x : List Float) (r : ℕ) → length (blockLine (cell x) r) ≡ 8
@@ -47,7 +48,7 @@ outside q a n = go (ltb q a) (leb (a + 8) q) (ltb→lt q a) (nltb→le q a) (leb
         let m : q < a + 8 = k tt in
         absurd (n (q - a) (omega arith) (omega arith))
 
-module _ (d x : List Float) (b : ℕ) (B : b < 1024) (long : 65536 ≤ length d) where
+module _ (d x : List Float) (b : ℕ) (B : b < blockCount) (long : planeSize ≤ length d) where
   room : (r : ℕ) → r < 8 → lineAt b r + 8 ≤ length d
   room r h = omega (arith, line-fits b r B h)
 

@@ -15,6 +15,7 @@ ghost use Rattle.dct.specs.Grid.{cell, blockLine};
 ghost use Rattle.block.specs.Mark.{markedOf, markedBlock};
 ghost use Rattle.block.specs.Soft.{termOf, meanOfFour, voteOf};
 ghost use Rattle.block.specs.Plane.{lineAt, loadOf, storedOf};
+ghost use Rattle.picture.specs.Sizes.{blockCount, planeSize};
 
 fn marked(v: f32, u: f32, half: f32) -> f32
     ensures { λ r. ⌜ r ≡ markedOf v u half ⌝ }
@@ -63,7 +64,7 @@ pub fn block_vote(values: &[f32; 64], u: [f32; 4]) -> f32
 
 // Where line r of block b starts in the plane.
 fn line_at(b: usize, r: usize) -> usize
-    requires { ⌜ (b < 1024) × (r < 8) ⌝ }
+    requires { ⌜ (b < blockCount) × (r < 8) ⌝ }
     ensures { λ at. ⌜ at ≡ lineAt b r ⌝ }
 {
     (b / 32 * 8 + r) * 256 + b % 32 * 8
@@ -71,7 +72,7 @@ fn line_at(b: usize, r: usize) -> usize
 
 // Block b of the plane, which stands first in what is lent.
 pub fn load_block(plane: &[f32], b: usize) -> [f32; 64]
-    requires { ⌜ (b < 1024) × (65536 ≤ length (now plane)) ⌝ }
+    requires { ⌜ (b < blockCount) × (planeSize ≤ length (now plane)) ⌝ }
     ensures { λ x. ⌜ x ≡ loadOf (now (plane .entry)) b ⌝ }
 {
     let mut values = [0.0f32; 64];
@@ -96,7 +97,7 @@ fn block_line(values: &[f32; 64], r: usize) -> [f32; 8]
 
 // Block b of the plane becomes the values; every other place of what is lent stays.
 pub fn store_block(plane: &mut [f32], b: usize, values: &[f32; 64])
-    requires { ⌜ (b < 1024) × (65536 ≤ length (now plane)) ⌝ }
+    requires { ⌜ (b < blockCount) × (planeSize ≤ length (now plane)) ⌝ }
     ensures { λ _. ⌜ now (plane .exit) ≡ storedOf (now (plane .entry)) b (now (values .entry)) ⌝ }
 {
     for r in 0..8usize {

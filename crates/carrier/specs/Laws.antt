@@ -7,8 +7,9 @@ use lib.ListN.{length, drop, replicate, length-append, length-drop}
 use lib.Ieee.{Float}
 use Rattle.float.specs.Base.{zero+}
 use Rattle.carrier.specs.Carrier.{cleared}
+use Rattle.picture.specs.Sizes.{planeSize}
 
-pub put-back-cleared : (plane work : List Float) → length plane ≡ 65536 → 65536 ≤ length work → cleared (plane ++ drop 65536 work) ≡ cleared work
+pub put-back-cleared : (plane work : List Float) → length plane ≡ planeSize → planeSize ≤ length work → cleared (plane ++ drop planeSize work) ≡ cleared work
 put-back-cleared plane work e h =
-    let long : length (plane ++ drop 65536 work) ≡ length work = omega (arith, length-append plane (drop 65536 work), length-drop 65536 work) in
+    let long : length (plane ++ drop planeSize work) ≡ length work = omega (arith, length-append plane (drop planeSize work), length-drop planeSize work) in
     ap (λ (n : ℕ). replicate n zero+) long

@@ -13,6 +13,7 @@ use Rattle.resample_window.specs.declared.Window.{Window}
 use Rattle.resample_window.specs.declared.Weight.{Weight}
 use Rattle.resample_window.specs.declared.Weight.the-variants.{Of, Nothing}
 use Rattle.resample.specs.Samples.{lumaAt, planeOf, changedOf}
+use Rattle.picture.specs.Sizes.{planeSize}
 
 abbrev pub numbersOf : Window → List ℤ
 numbersOf w = w .first ∷ (w .last ∷ [])
@@ -41,7 +42,7 @@ lumaInto channels row out = cond (hasLuma (length row) channels (length out)) (t
 
 -- of so many samples, a plane of so many values
 abbrev pub hasPlane : ℕ → ℕ → ℕ → ℕ → ℕ → Bool
-hasPlane width height channels samples plane = hasSides width height channels && (eqb plane 65536 && eqb samples (width * channels * height))
+hasPlane width height channels samples plane = hasSides width height channels && (eqb plane planeSize && eqb samples (width * channels * height))
 
 unfoldable pub planeInto : ℕ → ℕ → ℕ → List ℕ → List Float → List Float
 planeInto width height channels samples plane = cond (hasPlane width height channels (length samples) (length plane)) (planeOf width height channels samples) plane

@@ -1,4 +1,6 @@
 // Crates `dct` and `block`. The matrices are made at each call, but once for all blocks of `vk_there_and_back`.
+use picture::BLOCKS;
+use picture::PLANE;
 ghost use mathlib.Core.Path.{_≡_};
 ghost use Prim.Native.Nat.{_%_, _<_};
 ghost use Rattle.dct.specs.Grid.{grid};
@@ -8,6 +10,7 @@ ghost use Rattle.block.specs.Mark.{markedBlock};
 ghost use Rattle.block.specs.Soft.{voteOf};
 ghost use Rattle.block.specs.Plane.{loadOf, storedOf};
 ghost use Rattle.comparison.specs.Blocks.{blockThereAndBack, thereAndBack};
+ghost use Rattle.picture.specs.Sizes.{blockCount};
 
 #[no_mangle]
 pub extern "C" fn vk_forward(values: &mut [f32; 64])
@@ -42,21 +45,21 @@ pub extern "C" fn vk_block_vote(values: &[f32; 64], u: &[f32; 4]) -> f32
 }
 
 #[no_mangle]
-pub extern "C" fn vk_load_block(plane: &[f32; 65536], b: u16, values: &mut [f32; 64])
-    ensures { λ _. ⌜ now (values .exit) ≡ loadOf (now (plane .entry)) (b % 1024) ⌝ }
+pub extern "C" fn vk_load_block(plane: &[f32; PLANE], b: u16, values: &mut [f32; 64])
+    ensures { λ _. ⌜ now (values .exit) ≡ loadOf (now (plane .entry)) (b % blockCount) ⌝ }
 {
     *values = block::load_block(plane, (b % 1024) as usize);
 }
 
 #[no_mangle]
-pub extern "C" fn vk_store_block(plane: &mut [f32; 65536], b: u16, values: &[f32; 64])
-    ensures { λ _. ⌜ now (plane .exit) ≡ storedOf (now (plane .entry)) (b % 1024) (now (values .entry)) ⌝ }
+pub extern "C" fn vk_store_block(plane: &mut [f32; PLANE], b: u16, values: &[f32; 64])
+    ensures { λ _. ⌜ now (plane .exit) ≡ storedOf (now (plane .entry)) (b % blockCount) (now (values .entry)) ⌝ }
 {
     block::store_block(plane, (b % 1024) as usize, values);
 }
 
-fn block_there_and_back(plane: &mut [f32; 65536], b: usize, matrix: &[f32; 64], turned: &[f32; 64])
-    requires { ⌜ (b < 1024) × (now matrix ≡ grid dctEntry) × (now turned ≡ grid dctTurned) ⌝ }
+fn block_there_and_back(plane: &mut [f32; PLANE], b: usize, matrix: &[f32; 64], turned: &[f32; 64])
+    requires { ⌜ (b < blockCount) × (now matrix ≡ grid dctEntry) × (now turned ≡ grid dctTurned) ⌝ }
     ensures { λ _. ⌜ now (plane .exit) ≡ blockThereAndBack (now (plane .entry)) b ⌝ }
 {
     let mut values = block::load_block(plane, b);
@@ -67,12 +70,12 @@ fn block_there_and_back(plane: &mut [f32; 65536], b: usize, matrix: &[f32; 64], 
 
 // Each block of the plane transformed, and transformed back.
 #[no_mangle]
-pub extern "C" fn vk_there_and_back(plane: &mut [f32; 65536])
-    ensures { λ _. ⌜ now (plane .exit) ≡ thereAndBack 1024 (now (plane .entry)) ⌝ }
+pub extern "C" fn vk_there_and_back(plane: &mut [f32; PLANE])
+    ensures { λ _. ⌜ now (plane .exit) ≡ thereAndBack blockCount (now (plane .entry)) ⌝ }
 {
     let matrix = dct::dct_matrix();
     let turned = dct::dct_turned();
-    for b in 0..1024usize {
+    for b in 0..BLOCKS {
         block_there_and_back(plane, b, &matrix, &turned);
     }
 }

@@ -13,7 +13,7 @@ ghost use Rattle.encoder.specs.Ccsds131.{recordSize, codedBits, encodeOf};
 ghost use Rattle.decoder.specs.Decoder.{floats, decoded, strength, bytesOf};
 use encoder::CODED;
 use encoder::RECORD;
-use layout::BLOCKS;
+use picture::BLOCKS;
 
 #[no_mangle]
 pub extern "C" fn vk_crc32(bytes: &[u8]) -> u32

@@ -12,13 +12,14 @@ use lib.Ieee.{Float, nan, binary32, low, prec}
 use Rattle.float_laws.specs.Values.{Is}
 use Rattle.seq.specs.Tab.{tab-same, getD-tab, length-tab}
 use Rattle.seq.specs.Lists.{tab}
-use Rattle.correction.specs.Demand3.{Votes, Fate, kept, votedF, zeroedCount, reversedCount, Bytes}
+use Rattle.correction.specs.Demand3.{Votes, Fate, kept, votedF, zeroedCount, reversedCount}
+use Rattle.seq.specs.Bytes.{Bytes}
 use Rattle.correction.specs.Carried.{votes-length}
 use Rattle.seq.specs.Sum.{sum-same}
 use Rattle.correction.specs.Rearrange.{sum, rearrange}
 use Rattle.decoder.specs.Decoder.{voted}
 use Rattle.encoder.specs.Ccsds131.{encodeOf}
-use Rattle.layout.specs.Permutation.{Undo}
+use Rattle.layout.specs.Layout.{Undo}
 use Rattle.layout.specs.Places.{through}
 use Rattle.correction.specs.Gathered.{placed, votes-at}
 use Rattle.correction.specs.Distance.{Potential}

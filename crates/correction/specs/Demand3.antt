@@ -10,16 +10,14 @@ use lib.ListN.{length, getD}
 use lib.IntN.{ℤ, pos, negℤ, natAbs, _+ℤ_}
 use lib.Ieee.{Float, nan, fin}
 use Rattle.seq.specs.Lists.{sumTo}
+use Rattle.seq.specs.Bytes.{Bytes}
 use Rattle.float_laws.specs.Values.{Is}
 use Rattle.encoder.specs.Ccsds131.{recordSize, codedBits, encodeOf}
-use Rattle.layout.specs.Layout.{blockCount}
+use Rattle.picture.specs.Sizes.{blockCount}
 use Rattle.layout.specs.Places.{blockBits, gathered, sure}
 use Rattle.decoder.specs.Decoder.{floats, pick, voted, decoded, strength, bytesOf}
 
 -- ---- records and votes
-
-abbrev pub Bytes : List ℕ → Type 0
-Bytes xs = (i : ℕ) → getD xs i 0 < 256
 
 -- a record: 46 bytes
 pub record IsRecord (xs : List ℕ) : Type 0 where

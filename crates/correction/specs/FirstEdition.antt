@@ -14,7 +14,8 @@ use lib.Ieee.{Float, nan}
 use Rattle.seq.specs.Sum.{sum-same}
 use Rattle.seq.specs.Tab.{getD-tab}
 use Rattle.float_laws.specs.Values.{Is}
-use Rattle.layout.specs.Layout.{blockCount, blockOf, placeOf}
+use Rattle.layout.specs.Layout.{blockOf, placeOf}
+use Rattle.picture.specs.Sizes.{blockCount}
 use Rattle.layout.specs.Permutation.{layout-undo}
 use Rattle.layout.specs.Places.{blockBits, through, gathered}
 use Rattle.encoder.specs.Ccsds131.{recordSize, codedBits, encodeOf}

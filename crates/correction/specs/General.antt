@@ -16,7 +16,8 @@ use Rattle.float_laws.specs.Values.{Is}
 use Rattle.decoder.specs.Decoder.{floats, decoded, strength, bytesOf}
 use Rattle.encoder.specs.Ccsds131.{code, recordBits, sixZeros, encodeOf}
 use Rattle.encoder.specs.Bits.{recordBits-length, recordBits-bits, six-bits}
-use Rattle.correction.specs.Demand3.{Bytes, Votes, hamming, Fate, kept}
+use Rattle.correction.specs.Demand3.{Votes, hamming, Fate, kept}
+use Rattle.seq.specs.Bytes.{Bytes}
 use Rattle.correction.specs.RecordBits.{bytesOf-recordBits, code-length, record-home, recordBits-bytesOf}
 use Rattle.correction.specs.Best.{score}
 use Rattle.correction.specs.Carried.{votes-length, decoded-best}

@@ -11,7 +11,7 @@ use Rattle.seq.specs.Lists.{tab}
 use Rattle.encoder.specs.Ccsds131.{nextState, code, run, byteBits, recordBits, sixZeros, Bits, none, one}
 use Rattle.encoder.specs.Bits.{parity-lt, half-bit}
 use Rattle.decoder.specs.Decoder.{byteAt, bytesOf}
-use Rattle.correction.specs.Demand3.{Bytes}
+use Rattle.seq.specs.Bytes.{Bytes}
 
 -- ---- the words of bits
 

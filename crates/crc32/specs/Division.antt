@@ -2,23 +2,14 @@
 -- remainder a dividend is made of, the division finds that remainder.
 use mathlib.Core.Path.{_≡_, refl, ap, ap₂, _∙_}
 use mathlib.Core.Bool.{Bool, true, false, _&&_}
-use mathlib.Core.List.{List, [], _∷_, _++_, tail}
+use mathlib.Core.List.{List, [], _∷_, _++_}
 use Prim.Native.Nat.{ℕ, zero, suc, _+_, _≤_}
 use native.Mathlib.Nat.{zero-add}
 use native.Mathlib.Omega.{arith}
 use lib.ListN.{length, replicate, length-map, length-append}
 use Rattle.crc32.specs.Ieee8023.{plusBit, _⊕_, leadingBit, scaled, remainder}
 use Rattle.crc32.specs.Sum.{both, sum-assoc, sum-comm, sum-twice, length-plus, sum-longer}
-
--- the product: each coefficient of q times g, at its own place
-unfoldable pub times : List Bool → List Bool → List Bool
-times [] g = []
-times (c ∷ q) g = scaled c g ⊕ (false ∷ times q g)
-
--- the quotient's n coefficients, as the long division finds them
-unfoldable pub quotient : ℕ → List Bool → List Bool → List Bool
-quotient zero g p = []
-quotient (suc n) g p = leadingBit p ∷ quotient n g (tail (p ⊕ scaled (leadingBit p) g))
+use Rattle.crc32.specs.Quotient.{times, quotient}
 
 length-scaled : (c : Bool) (g : List Bool) → length (scaled c g) ≡ length g
 unfolding scaled

@@ -1,6 +1,7 @@
 pub mod Ieee8023
 pub mod Vectors
 pub mod Sum
+pub mod Quotient
 pub mod Division
 pub mod Numbers
 pub mod Shift

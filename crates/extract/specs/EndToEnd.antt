@@ -8,12 +8,13 @@ use lib.ListN.{length}
 use lib.Ieee.{Float}
 use Rattle.utf8.specs.Rfc3629.{wellFormed}
 use Rattle.record.specs.declared.Lock.{Lock}
-use Rattle.record.specs.Record.{short, Outcome, gives, recordOf, builtOf}
+use Rattle.record.specs.Record.{short, gives, builtOf}
 use Rattle.record.specs.Answers.{readAs}
 use Rattle.record.specs.Theorems.{short-apart, round-trip}
 use Rattle.record.specs.Given.{openingKey}
-use Rattle.layout.specs.Layout.{blockCount}
-use Rattle.correction.specs.Demand3.{Bytes, IsRecord, Fate, zeroedCount, reversedCount, Laid}
+use Rattle.picture.specs.Sizes.{blockCount}
+use Rattle.correction.specs.Demand3.{IsRecord, Fate, zeroedCount, reversedCount, Laid}
+use Rattle.seq.specs.Bytes.{Bytes}
 use Rattle.extract.specs.Extract.{votesReading}
 use Rattle.extract.specs.Theorems.{votes-correct}
 use Rattle.extract.specs.Written.{is-record, built-is}

@@ -13,7 +13,7 @@ use Rattle.record.specs.declared.Reading.{Reading}
 use Rattle.record.specs.Record.{short, Outcome, refused, gives, parsedOf}
 use Rattle.record.specs.Answers.{readAs}
 use Rattle.encoder.specs.Ccsds131.{recordSize}
-use Rattle.layout.specs.Layout.{blockCount}
+use Rattle.picture.specs.Sizes.{blockCount}
 use Rattle.correction.specs.Demand3.{decodedFrom}
 use Rattle.extract.specs.declared.Decoded.{Decoded}
 

@@ -32,7 +32,7 @@ use Rattle.record.specs.Record.{short, saltAt, outerAt, size, Outcome, refused,
 use Rattle.seq.specs.Bytes.{numberAt}
 use Rattle.record.specs.Answers.{readAs}
 use Rattle.encoder.specs.Ccsds131.{recordSize}
-use Rattle.layout.specs.Layout.{blockCount}
+use Rattle.picture.specs.Sizes.{blockCount}
 use Rattle.correction.specs.Demand3.{decodedFrom, bitIn, Fate, kept, zeroed, reversed, votedF, Laid, WholeVotes}
 use Rattle.correction.specs.Carried.{votes-length}
 use Rattle.correction.specs.Gathered.{votes-at}

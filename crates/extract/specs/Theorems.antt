@@ -1,6 +1,6 @@
 -- What may be relied on beyond the equations of Extract.antt: demand 3, in the words of correction/specs/Demand3.antt, for
 -- what `record_of` and `read_votes` answer. The proofs rest on Laws.antt and on the theorems of the crate `correction`.
-use mathlib.Core.Path.{_≡_, ap, _∙_, subst, sym}
+use mathlib.Core.Path.{_≡_, ap, _∙_, sym}
 use mathlib.Core.List.{List}
 use Prim.Native.Nat.{ℕ, _+_, _*_, _≤_}
 use lib.IntN.{ℤ}
@@ -8,16 +8,14 @@ use lib.ListN.{length}
 use lib.Signed.{_≤ℤ_}
 use lib.Ieee.{Float}
 use Rattle.refusal.specs.declared.Refusal.the-variants.{BadLength, BadVote}
-use Rattle.refusal.specs.declared.Answer.{Answer}
 use Rattle.refusal.specs.declared.Answer.the-variants.{Done, Refused}
 use Rattle.record.specs.declared.Key.{Key}
 use Rattle.record.specs.declared.Reading.{Reading}
 use Rattle.record.specs.Record.{short, Outcome, gives, parsedOf}
 use Rattle.record.specs.Answers.{readAs}
-use Rattle.layout.specs.Layout.{blockCount}
+use Rattle.picture.specs.Sizes.{blockCount}
 use Rattle.correction.specs.Demand3.{IsRecord, decodedFrom, WholeVotes, scoreOf, Fate, zeroedCount, reversedCount, Laid}
 use Rattle.correction.specs.Theorems.{best, corrects}
-use Rattle.extract.specs.declared.Decoded.{Decoded}
 use Rattle.extract.specs.Extract.{decodedAs, recordReading, votesReading}
 use Rattle.extract.specs.Laws.{decodes-on, reads-on, laid-good, whole-good, parsed-neither}
 

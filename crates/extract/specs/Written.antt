@@ -1,6 +1,6 @@
 -- What the writer makes is a record: 46 bytes, each below 256. A text that is not refused has bytes below 256, by the check on
 -- writing.
-use mathlib.Core.Path.{_≡_, refl, sym, ap, _∙_, subst}
+use mathlib.Core.Path.{_≡_, refl, ap, _∙_, subst}
 use mathlib.Core.Bool.{Bool, true, false, not, cond, _&&_}
 use mathlib.Core.List.{List, [], _∷_, _++_, flatten}
 use Prim.Native.Nat as nat
@@ -15,15 +15,15 @@ use Rattle.seq.specs.Lists.{tab, onPart}
 use Rattle.crc32.specs.Ieee8023.{crcOf}
 use Rattle.chacha20.specs.Rfc8439.{keystream, xored, encrypted}
 use Rattle.chacha20.specs.Blocks.{block-below}
-use Rattle.utf8.specs.Abnf.{Rule, %_-_, _·_, _/_, Of, byte, joined, first, second, Each, none, more, *⟨_⟩}
+use Rattle.utf8.specs.Abnf.{Rule, %_-_, _·_, _/_, Of, byte, joined, first, second, Each, none, more}
 use Rattle.utf8.specs.Counted.{counted-char, counted}
 use Rattle.utf8.specs.Texts.{counted-is}
 use Rattle.refusal.specs.declared.Refusal.the-variants.{TextTooLong, TextNotUtf8}
 use Rattle.record.specs.declared.Lock.{Lock}
 use Rattle.record.specs.Record.{short, innerAt, outerAt, lengthAt, refused, gives, covered, headOf, laidOut, locked, recordOf, builtOf, withCrc}
-use Rattle.seq.specs.Bytes.{bigEndian}
+use Rattle.seq.specs.Bytes.{bigEndian, Bytes}
 use Rattle.record.specs.Laws.{length-summed, length-laid, length-locked}
-use Rattle.correction.specs.Demand3.{Bytes, IsRecord}
+use Rattle.correction.specs.Demand3.{IsRecord}
 
 -- ---- lists of bytes
 

@@ -2,7 +2,7 @@
 // votes are a picture's, and for those who have votes only; the one place that knows the order in which votes are refused.
 // The definition is specs/Extract.antt; what may be relied on beyond it is specs/Theorems.antt and specs/EndToEnd.antt.
 use encoder::RECORD;
-use layout::BLOCKS;
+use picture::BLOCKS;
 use record::Key;
 use record::Reading;
 use refusal::Answer;
@@ -10,7 +10,7 @@ use refusal::Refusal;
 ghost use mathlib.Core.Path.{_≡_};
 ghost use lib.ListN.{length};
 ghost use Rattle.record.specs.Record.{Outcome};
-ghost use Rattle.layout.specs.Layout.{blockCount};
+ghost use Rattle.picture.specs.Sizes.{blockCount};
 ghost use Rattle.correction.specs.Demand3.{decodedFrom};
 ghost use Rattle.extract.specs.Extract.{textOf, goodVotes, decodedAs, recordReading, votesReading};
 

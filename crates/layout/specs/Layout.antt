@@ -1,12 +1,9 @@
 -- The layout: place j stands in block `blockOf j`. A constant list of 1,024 block numbers, which is a shuffle with a public
 -- key, and the list that undoes it. Definitions only.
 use mathlib.Core.List.{List, [], _∷_}
-use Prim.Native.Nat.{ℕ}
+use mathlib.Core.Path.{_≡_}
+use Prim.Native.Nat.{ℕ, _<_}
 use lib.ListN.{getD}
-
--- the blocks, and so the places
-abbrev pub blockCount : ℕ
-blockCount = 1024
 
 unfoldable pub layout : List ℕ
 layout =
@@ -150,3 +147,10 @@ blockOf j = getD layout j 0
 
 abbrev pub placeOf : ℕ → ℕ
 placeOf b = getD places b 0
+
+-- l and back undo each other below n
+pub record Undo (l back : ℕ → ℕ) (n : ℕ) : Type 0 where
+  pub lo : (j : ℕ) → j < n → l j < n
+  pub bo : (b : ℕ) → b < n → back b < n
+  pub there : (j : ℕ) → j < n → back (l j) ≡ j
+  pub again : (b : ℕ) → b < n → l (back b) ≡ b

@@ -13,7 +13,8 @@ use lib.Seq.{ext-getD, getD-set-same, getD-set-other}
 use lib.Ieee.{Float, nan, binary32, add}
 use Rattle.seq.specs.Tab.{tab-same, tab-replicate, getD-tab, length-tab}
 use Rattle.seq.specs.Lists.{tab}
-use Rattle.layout.specs.Layout.{blockCount, blockOf, placeOf}
+use Rattle.layout.specs.Layout.{blockOf, placeOf}
+use Rattle.picture.specs.Sizes.{blockCount}
 use Rattle.layout.specs.Permutation.{layout-undo}
 use Rattle.layout.specs.Places.{blockBits, through, gather, gatherF}
 

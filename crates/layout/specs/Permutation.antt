@@ -6,14 +6,8 @@ use lib.Dec.{T, eqb, ltb, eqb→eq, ltb→lt}
 use lib.Ieee.Fits.{and-l, and-r}
 use lib.ListN.{length}
 use Rattle.seq.specs.Table.{every, at}
-use Rattle.layout.specs.Layout.{blockCount, layout, places, blockOf, placeOf}
-
--- l and back undo each other below n
-pub record Undo (l back : ℕ → ℕ) (n : ℕ) : Type 0 where
-  pub lo : (j : ℕ) → j < n → l j < n
-  pub bo : (b : ℕ) → b < n → back b < n
-  pub there : (j : ℕ) → j < n → back (l j) ≡ j
-  pub again : (b : ℕ) → b < n → l (back b) ≡ b
+use Rattle.layout.specs.Layout.{layout, places, blockOf, placeOf, Undo}
+use Rattle.picture.specs.Sizes.{blockCount}
 
 block-rule : ℕ → ℕ → Bool
 block-rule j b = ltb b blockCount && eqb (placeOf b) j

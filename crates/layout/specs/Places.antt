@@ -7,7 +7,8 @@ use lib.ListN.{getD, set, replicate}
 use lib.Ieee.{Float, nan, fin, binary32, add}
 use mathlib.Core.Bool.{true, false}
 use Rattle.seq.specs.Lists.{tab}
-use Rattle.layout.specs.Layout.{blockCount, blockOf, placeOf}
+use Rattle.layout.specs.Layout.{blockOf, placeOf}
+use Rattle.picture.specs.Sizes.{blockCount}
 
 -- ---- from coded bits to blocks
 

@@ -15,7 +15,8 @@ use lib.Ieee.{Float, nan, fin, binary32, add}
 use Rattle.seq.specs.Tab.{tab-same, getD-tab}
 use Rattle.seq.specs.Lists.{tab}
 use Rattle.encoder.specs.Ccsds131.{codedBits}
-use Rattle.layout.specs.Layout.{blockCount, blockOf, placeOf}
+use Rattle.layout.specs.Layout.{blockOf, placeOf}
+use Rattle.picture.specs.Sizes.{blockCount}
 use Rattle.layout.specs.Permutation.{layout-undo}
 use Rattle.layout.specs.Places.{blockBits, through, gather, gatherF, gathered, sure}
 

@@ -4,15 +4,14 @@
 ghost use mathlib.Core.Path.{_≡_};
 ghost use Prim.Native.Nat.{_<_};
 ghost use Rattle.encoder.specs.Ccsds131.{codedBits};
-ghost use Rattle.layout.specs.Layout.{blockCount, layout, blockOf};
+ghost use Rattle.layout.specs.Layout.{layout, blockOf};
+ghost use Rattle.picture.specs.Sizes.{blockCount};
 ghost use Rattle.layout.specs.Places.{blockBits, gathered};
 use encoder::CODED;
+use picture::BLOCKS;
 use table::LAYOUT;
 
 mod table;
-
-// The blocks of a picture, each of which carries one bit.
-pub const BLOCKS: usize = 1024;
 
 // The bit that each block carries.
 pub fn block_bits(coded: &[u8; CODED]) -> [u8; BLOCKS]

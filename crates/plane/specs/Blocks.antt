@@ -18,6 +18,7 @@ use Rattle.dct.specs.Columns.{cell-grid, length-grid}
 use Rattle.block.specs.Plane.{lineAt, loadOf, storedOf}
 use Rattle.block.specs.Stored.{length-stored, load-stored, load-other}
 use Rattle.plane.specs.Plane.{ditherFour, blockChange, planeOfBlocks, changeOf, changedBlock, changedFrom, planeVote, FirstVotes, ditherGroup}
+use Rattle.picture.specs.Sizes.{blockCount, planeSize}
 
 -- ---- the plane is made of its blocks
 
@@ -25,7 +26,7 @@ use Rattle.plane.specs.Plane.{ditherFour, blockChange, planeOfBlocks, ch
 abbrev pub blockAt : ℕ → ℕ
 blockAt p = p / 2048 * 32 + p % 256 / 8
 
-pub blockAt-below : (p : ℕ) → p < 65536 → blockAt p < 1024
+pub blockAt-below : (p : ℕ) → p < planeSize → blockAt p < blockCount
 blockAt-below p h = omega arith
 
 -- and its line and column there
@@ -40,19 +41,19 @@ pub cell-load : (d : List Float) (p : ℕ) → cell (loadOf d (blockAt p)) (p / 
 unfolding loadOf
 cell-load d p = cell-grid (λ r c. getD d (lineAt (blockAt p) r + c) nan) (p / 256 % 8) (p % 8) (omega arith) (omega arith) ∙ ap (λ (n : ℕ). getD d n nan) (place-is p)
 
-pub length-plane : (f : ℕ → List Float) → length (planeOfBlocks f) ≡ 65536
+pub length-plane : (f : ℕ → List Float) → length (planeOfBlocks f) ≡ planeSize
 unfolding planeOfBlocks
-length-plane f = length-tab (λ p. cell (f (blockAt p)) (p / 256 % 8) (p % 8)) 65536
+length-plane f = length-tab (λ p. cell (f (blockAt p)) (p / 256 % 8) (p % 8)) planeSize
 
-pub place-of-plane : (f : ℕ → List Float) (p : ℕ) → p < 65536 → getD (planeOfBlocks f) p nan ≡ cell (f (blockAt p)) (p / 256 % 8) (p % 8)
+pub place-of-plane : (f : ℕ → List Float) (p : ℕ) → p < planeSize → getD (planeOfBlocks f) p nan ≡ cell (f (blockAt p)) (p / 256 % 8) (p % 8)
 unfolding planeOfBlocks
-place-of-plane f p h = getD-tab (λ p. cell (f (blockAt p)) (p / 256 % 8) (p % 8)) 65536 p nan h
+place-of-plane f p h = getD-tab (λ p. cell (f (blockAt p)) (p / 256 % 8) (p % 8)) planeSize p nan h
 
-plane-is : (f : ℕ → List Float) (d : List Float) → length d ≡ 65536 → ((b : ℕ) → b < 1024 → loadOf d b ≡ f b) → d ≡ planeOfBlocks f
+plane-is : (f : ℕ → List Float) (d : List Float) → length d ≡ planeSize → ((b : ℕ) → b < blockCount → loadOf d b ≡ f b) → d ≡ planeOfBlocks f
 plane-is f d l h =
     ext-getD nan d (planeOfBlocks f) (l ∙ sym (length-plane f))
     (λ p k.
-    let P : p < 65536 = omega arith in
+    let P : p < planeSize = omega arith in
     sym (cell-load d p) ∙ (ap (λ (x : List Float). cell x (p / 256 % 8) (p % 8)) (h (blockAt p) (blockAt-below p P)) ∙ sym (place-of-plane f p P)))
 
 -- ---- block by block
@@ -79,15 +80,15 @@ module _ (bits : List ℕ) (d : List Float) where
 
   -- the first n blocks of e are the changes of those of d, and the others as in d
   abbrev Changed : ℕ → List Float → Type 0
-  Changed n e = (length e ≡ 65536) × ((b : ℕ) → b < n → loadOf e b ≡ changedBlock bits d b) × ((b : ℕ) → n ≤ b → loadOf e b ≡ loadOf d b)
+  Changed n e = (length e ≡ planeSize) × ((b : ℕ) → b < n → loadOf e b ≡ changedBlock bits d b) × ((b : ℕ) → n ≤ b → loadOf e b ≡ loadOf d b)
 
-  one-more : (n : ℕ) (e : List Float) → n < 1024 → Changed n e → Changed (suc n) (storedOf e n (changedBlock bits e n))
+  one-more : (n : ℕ) (e : List Float) → n < blockCount → Changed n e → Changed (suc n) (storedOf e n (changedBlock bits e n))
   one-more n e N p = (length-stored e x n N long ∙ p .0, λ b h. go b (eq-or-lt-of-le h), λ b h. load-other e x n N long b (λ q. omega arith) ∙ p .2 b (omega arith))
     where
       x : List Float
       x = changedBlock bits e n
 
-      long : 65536 ≤ length e
+      long : planeSize ≤ length e
       long = omega (arith, p .0)
 
       go : (b : ℕ) → (suc b ≡ suc n) ⊎ (suc b < suc n) → loadOf (storedOf e n x) b ≡ changedBlock bits d b
@@ -96,20 +97,20 @@ module _ (bits : List ℕ) (d : List Float) where
           rw i (load-stored e x n N long (length-changed bits e n) ∙ ap (blockChange (ditherFour n) (getD bits n 0)) (p .2 n (le-refl n)))
       go b (inr q) = load-other e x n N long b (λ i. omega arith) ∙ p .1 b (omega arith)
 
-  changed-first : (n : ℕ) → n ≤ 1024 → length d ≡ 65536 → Changed n (changedFrom bits 0 n d)
+  changed-first : (n : ℕ) → n ≤ blockCount → length d ≡ planeSize → Changed n (changedFrom bits 0 n d)
   unfolding changedFrom
   changed-first zero h l = (l, λ b k. absurd (omega arith), λ b k. refl)
   changed-first (suc n) h l = rw (zero-add n) (one-more n (changedFrom bits 0 n d) h (changed-first n (omega arith) l))
 
-  pub all-changed : length d ≡ 65536 → changedFrom bits 0 1024 d ≡ changeOf bits d
+  pub all-changed : length d ≡ planeSize → changedFrom bits 0 blockCount d ≡ changeOf bits d
   unfolding changeOf
   all-changed l =
-      let p = changed-first 1024 (le-refl 1024) l in
-      plane-is (changedBlock bits d) (changedFrom bits 0 1024 d) (p .0) (λ b h. p .1 b h)
+      let p = changed-first blockCount (le-refl blockCount) l in
+      plane-is (changedBlock bits d) (changedFrom bits 0 blockCount d) (p .0) (λ b h. p .1 b h)
 
 -- ---- the votes
 
-pub votes-more : (d : List Float) (n : ℕ) (v : Float) (votes : List Float) → n < 1024 → v ≡ planeVote d n → FirstVotes d n votes → FirstVotes d (n + 1) (set votes n v)
+pub votes-more : (d : List Float) (n : ℕ) (v : Float) (votes : List Float) → n < blockCount → v ≡ planeVote d n → FirstVotes d n votes → FirstVotes d (n + 1) (set votes n v)
 votes-more d n v votes h e p = (simp length-set (p .0), prefix-more (planeVote d) n v votes (omega (arith, p .0)) e (p .1))
 
 -- ---- the dither

@@ -22,6 +22,7 @@ use Rattle.block.specs.Plane.{loadOf}
 use Rattle.block.specs.Finite.{Dither, load-within, plane-vote-within, marked-plane-within}
 use Rattle.plane.specs.Plane.{ditherFour, blockChange, blockVote, markedPlane, changeOf, votesOf, changedBlock, planeVote}
 use Rattle.plane.specs.Blocks.{blockAt, blockAt-below, cell-load, place-of-plane}
+use Rattle.picture.specs.Sizes.{planeSize}
 
 pub dither-within : (b : ℕ) → Dither (ditherFour b)
 unfolding ditherFour
@@ -36,7 +37,7 @@ pub length-votes : (d : List Float) → length (votesOf d) ≡ 1024
 unfolding votesOf
 length-votes d = length-tab (planeVote d) 1024
 
-pub votes-good : (d : List Float) → ((p : ℕ) → p < 65536 → Within (getD d p nan) (2 ^ 20) 1) → (b : ℕ) → b < 1024 → inUnit (getD (votesOf d) b nan) ≡ true
+pub votes-good : (d : List Float) → ((p : ℕ) → p < planeSize → Within (getD d p nan) (2 ^ 20) 1) → (b : ℕ) → b < 1024 → inUnit (getD (votesOf d) b nan) ≡ true
 unfolding votesOf blockVote
 votes-good d D b B =
     ap inUnit (getD-tab (planeVote d) 1024 b nan B)
@@ -48,19 +49,19 @@ votes-good d D b B =
 abbrev markedAt : List ℕ → List Float → ℕ → List Float
 markedAt bits d b = inverseOf (markedBlock (ditherFour b) (getD bits b 0) (forwardOf (loadOf d b)))
 
-change-at : (bits : List ℕ) (d : List Float) (p : ℕ) → p < 65536
+change-at : (bits : List ℕ) (d : List Float) (p : ℕ) → p < planeSize
     → getD (changeOf bits d) p nan ≡ sub binary32 (cell (markedAt bits d (blockAt p)) (p / 256 % 8) (p % 8)) (cell (loadOf d (blockAt p)) (p / 256 % 8) (p % 8))
 unfolding changeOf blockChange
 change-at bits d p P =
     place-of-plane (changedBlock bits d) p P
     ∙ cell-grid (λ r c. sub binary32 (cell (markedAt bits d (blockAt p)) r c) (cell (loadOf d (blockAt p)) r c)) (p / 256 % 8) (p % 8) (omega arith) (omega arith)
 
-pub change-is : (bits : List ℕ) (d : List Float) (p : ℕ) → p < 65536 → getD (changeOf bits d) p nan ≡ sub binary32 (getD (markedPlane bits d) p nan) (getD d p nan)
+pub change-is : (bits : List ℕ) (d : List Float) (p : ℕ) → p < planeSize → getD (changeOf bits d) p nan ≡ sub binary32 (getD (markedPlane bits d) p nan) (getD d p nan)
 unfolding markedPlane
 change-is bits d p P = change-at bits d p P ∙ ap₂ (sub binary32) (sym (place-of-plane (markedAt bits d) p P)) (cell-load d p)
 
-pub change-bounded : (bits : List ℕ) (d : List Float) → ((b : ℕ) → getD bits b 0 ≤ 1) → ((p : ℕ) → p < 65536 → Within (getD d p nan) (2 ^ 20) 1)
-    → (p : ℕ) → p < 65536 → Within (getD (changeOf bits d) p nan) (2 ^ 29) 1
+pub change-bounded : (bits : List ℕ) (d : List Float) → ((b : ℕ) → getD bits b 0 ≤ 1) → ((p : ℕ) → p < planeSize → Within (getD d p nan) (2 ^ 20) 1)
+    → (p : ℕ) → p < planeSize → Within (getD (changeOf bits d) p nan) (2 ^ 29) 1
 change-bounded bits d B D p P =
     let b = blockAt p in
     subst (λ (x : Float). Within x (2 ^ 29) 1) (sym (change-at bits d p P))

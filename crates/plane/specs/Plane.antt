@@ -11,6 +11,7 @@ use Rattle.block.specs.Mark.{markedBlock}
 use Rattle.block.specs.Soft.{voteOf}
 use Rattle.block.specs.Plane.{loadOf, storedOf}
 use mathlib.Core.Path.{_≡_}
+use Rattle.picture.specs.Sizes.{blockCount, planeSize}
 
 -- the dither numbers of block b
 unfoldable pub ditherFour : ℕ → List Float
@@ -24,7 +25,7 @@ blockChange u bit x = grid (λ r c. sub binary32 (cell (inverseOf (markedBlock u
 
 -- the plane whose block b is f b
 unfoldable pub planeOfBlocks : (ℕ → List Float) → List Float
-planeOfBlocks f = tab (λ p. cell (f (p / 2048 * 32 + p % 256 / 8)) (p / 256 % 8) (p % 8)) 65536
+planeOfBlocks f = tab (λ p. cell (f (p / 2048 * 32 + p % 256 / 8)) (p / 256 % 8) (p % 8)) planeSize
 
 -- the plane with each block's bit put into it
 unfoldable pub markedPlane : List ℕ → List Float → List Float
@@ -40,7 +41,7 @@ unfoldable pub blockVote : List Float → List Float → Float
 blockVote u x = voteOf u (forwardOf x)
 
 unfoldable pub votesOf : List Float → List Float
-votesOf d = tab (λ b. blockVote (ditherFour b) (loadOf d b)) 1024
+votesOf d = tab (λ b. blockVote (ditherFour b) (loadOf d b)) blockCount
 
 -- ---- the plane on the way: some blocks changed, some votes found
 
@@ -59,7 +60,7 @@ planeVote d b = blockVote (ditherFour b) (loadOf d b)
 
 -- the first n are the votes of the plane's first n blocks
 abbrev pub FirstVotes : List Float → ℕ → List Float → Type 0
-FirstVotes d n votes = (length votes ≡ 1024) × (take n votes ≡ tab (planeVote d) n)
+FirstVotes d n votes = (length votes ≡ blockCount) × (take n votes ≡ tab (planeVote d) n)
 
 -- the numbers of block g of the keystream
 abbrev pub ditherGroup : ℕ → List Float

@@ -8,6 +8,7 @@ use block::store_block;
 use dct::forward;
 use dct::inverse;
 use dither::dither;
+use picture::BLOCKS;
 ghost use mathlib.Core.Path.{_≡_};
 ghost use Prim.Native.Nat.{_+_, _*_, _<_};
 ghost use lib.ListN.{length, getD};
@@ -17,6 +18,7 @@ ghost use Rattle.dct.specs.Grid.{grid, cell};
 ghost use Rattle.dct.specs.Matrix.{dctEntry, dctTurned};
 ghost use Rattle.block.specs.Plane.{loadOf};
 ghost use Rattle.plane.specs.Plane.{blockChange, blockVote, changeOf, votesOf, ditherGroup, changedFrom, FirstVotes};
+ghost use Rattle.picture.specs.Sizes.{blockCount, planeSize};
 
 // The dither's numbers come for four blocks at a time.
 const IN_GROUP: usize = 4;
@@ -65,13 +67,13 @@ fn block_change(
 // Four blocks of the plane, from block 4 * group on, become their changes.
 fn embed_four(
     plane: &mut [f32],
-    bits: &[u8; 1024],
+    bits: &[u8; BLOCKS],
     group: usize,
     u: &[f32; 16],
     matrix: &[f32; 64],
     turned: &[f32; 64],
 )
-    requires { ⌜ (group < 256) × (length (now plane) ≡ 65536) × (now u ≡ ditherGroup group) × (now matrix ≡ grid dctEntry) × (now turned ≡ grid dctTurned) ⌝ }
+    requires { ⌜ (group < 256) × (length (now plane) ≡ planeSize) × (now u ≡ ditherGroup group) × (now matrix ≡ grid dctEntry) × (now turned ≡ grid dctTurned) ⌝ }
     ensures { λ _. ⌜ now (plane .exit) ≡ changedFrom (now (bits .entry)) (4 * group) 4 (now (plane .entry)) ⌝ }
 {
     for k in 0..IN_GROUP {
@@ -83,8 +85,8 @@ fn embed_four(
 }
 
 // The plane becomes the change that puts the blocks' bits into it: block by block, so that no second plane is needed.
-pub fn embed_bits(plane: &mut [f32], bits: &[u8; 1024])
-    requires { ⌜ length (now plane) ≡ 65536 ⌝ }
+pub fn embed_bits(plane: &mut [f32], bits: &[u8; BLOCKS])
+    requires { ⌜ length (now plane) ≡ planeSize ⌝ }
     ensures { λ _. ⌜ now (plane .exit) ≡ changeOf (now (bits .entry)) (now (plane .entry)) ⌝ }
 {
     let matrix = dct::dct_matrix();
@@ -97,7 +99,7 @@ pub fn embed_bits(plane: &mut [f32], bits: &[u8; 1024])
 
 // The vote of block b.
 fn vote(plane: &[f32], b: usize, u: [f32; 4], matrix: &[f32; 64], turned: &[f32; 64]) -> f32
-    requires { ⌜ (b < 1024) × (length (now plane) ≡ 65536) × (now matrix ≡ grid dctEntry) × (now turned ≡ grid dctTurned) ⌝ }
+    requires { ⌜ (b < blockCount) × (length (now plane) ≡ planeSize) × (now matrix ≡ grid dctEntry) × (now turned ≡ grid dctTurned) ⌝ }
     ensures { λ r. ⌜ r ≡ blockVote u (loadOf (now (plane .entry)) b) ⌝ }
 {
     let mut values = load_block(plane, b);
@@ -114,7 +116,7 @@ fn four_votes(
     matrix: &[f32; 64],
     turned: &[f32; 64],
 )
-    requires { ⌜ (group < 256) × (length (now plane) ≡ 65536) × (now u ≡ ditherGroup group) × (now matrix ≡ grid dctEntry) × (now turned ≡ grid dctTurned) ⌝ }
+    requires { ⌜ (group < 256) × (length (now plane) ≡ planeSize) × (now u ≡ ditherGroup group) × (now matrix ≡ grid dctEntry) × (now turned ≡ grid dctTurned) ⌝ }
     requires { ⌜ FirstVotes (now plane) (4 * group) (now votes) ⌝ }
     ensures { λ _. ⌜ FirstVotes (now (plane .entry)) (4 * group + 4) (now (votes .exit)) ⌝ }
 {
@@ -125,13 +127,13 @@ fn four_votes(
 }
 
 // The vote of each block of the plane.
-pub fn block_soft(plane: &[f32]) -> [f32; 1024]
-    requires { ⌜ length (now plane) ≡ 65536 ⌝ }
+pub fn block_soft(plane: &[f32]) -> [f32; BLOCKS]
+    requires { ⌜ length (now plane) ≡ planeSize ⌝ }
     ensures { λ r. ⌜ r ≡ votesOf (now (plane .entry)) ⌝ }
 {
     let matrix = dct::dct_matrix();
     let turned = dct::dct_turned();
-    let mut votes = [0.0f32; 1024];
+    let mut votes = [0.0f32; BLOCKS];
     for group in 0..GROUPS {
         let u = dither(group as u32);
         four_votes(plane, &mut votes, group, &u, &matrix, &turned);

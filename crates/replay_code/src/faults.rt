@@ -3,7 +3,7 @@
 use decoder::viterbi;
 use encoder::RECORD;
 use encoder::encode;
-use layout::BLOCKS;
+use picture::BLOCKS;
 
 fn sure(bit: u8) -> f32 {
     if bit == 0 { 1.0 } else { -1.0 }

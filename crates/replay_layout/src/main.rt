@@ -4,7 +4,7 @@
 // oracle's: it computes them in oracle/judge/src/shuffles.rs by the formula that stands within the Rust's shuffle.
 // A case is two strings of bytes, the operand and the result, in which a number has its high byte first.
 use encoder::CODED;
-use layout::BLOCKS;
+use picture::BLOCKS;
 use replay_lists::Field;
 use replay_lists::stored::f32_of;
 use replay_lists::stored::number;

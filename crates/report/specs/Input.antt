@@ -12,7 +12,7 @@ use Rattle.record.specs.declared.Key.{Key}
 use Rattle.record.specs.declared.Reading.{Reading}
 use Rattle.record.specs.Record.{refused}
 use Rattle.record.specs.Answers.{readAs}
-use Rattle.layout.specs.Layout.{blockCount}
+use Rattle.picture.specs.Sizes.{blockCount}
 use Rattle.extract.specs.Extract.{votesReading}
 
 -- vote k is the f32 whose pattern is word k of the bytes, the lowest byte first

@@ -13,23 +13,14 @@ use lib.Ieee.{Float}
 use borrow.Author.Tests.{lt-ltb, le-ltb, ltb-true, ltb-false}
 use Rattle.seq.specs.Lists.{tab}
 use Rattle.refusal.specs.declared.Refusal.{Refusal}
-use Rattle.refusal.specs.declared.Refusal.the-variants.{
-  BadLength,
-  NoWatermark,
-  UnsupportedVersion,
-  NotEncrypted,
-  PasswordRequired,
-  Damaged,
-  WrongPasswordOrDamaged,
-  BadVote,
-}
+use Rattle.refusal.specs.declared.Refusal.the-variants.{BadLength, NoWatermark, UnsupportedVersion, NotEncrypted, PasswordRequired, Damaged, WrongPasswordOrDamaged}
 use Rattle.record.specs.declared.Key.{Key}
 use Rattle.record.specs.declared.Reading.{Reading}
 use Rattle.record.specs.Record.{short, saltAt, lengthAt, textAt, outerAt, intact, covered, Outcome, refused, gives, textIn, sound, insideOf, parsedOf}
 use Rattle.seq.specs.Bytes.{numberAt}
 use Rattle.record.specs.Answers.{readAs}
 use Rattle.record.specs.Laws.{sound-length}
-use Rattle.layout.specs.Layout.{blockCount}
+use Rattle.picture.specs.Sizes.{blockCount}
 use Rattle.extract.specs.Extract.{recordOutcome, parsedFrom, votesOutcome, votesReading}
 use Rattle.report.specs.Input.{voteFrom, noKey, bytesReading}
 use Rattle.report.specs.Line.{digit, decimalDigits, decimal, pairs, hex, lineRoom, lineAs, Lends}

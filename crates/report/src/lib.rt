@@ -2,6 +2,7 @@
 // answer in words. From the scope, section 20, which specs/Input.antt and specs/Line.antt state.
 mod put;
 
+use picture::BLOCKS;
 use record::Key;
 use record::Reading;
 use refusal::Answer;
@@ -10,7 +11,7 @@ ghost use mathlib.Core.Path.{_≡_};
 ghost use Prim.Native.Nat.{_≤_};
 ghost use lib.ListN.{length};
 ghost use Rattle.seq.specs.Lists.{tab};
-ghost use Rattle.layout.specs.Layout.{blockCount};
+ghost use Rattle.picture.specs.Sizes.{blockCount};
 ghost use Rattle.report.specs.Input.{voteFrom, bytesReading};
 ghost use Rattle.report.specs.Line.{textLine, refusedLine, lineOf, lineAs, Lends};
 
@@ -29,12 +30,12 @@ pub struct Line {
     pub length: usize,
 }
 
-fn votes_in(bytes: &[u8]) -> [f32; 1024]
+fn votes_in(bytes: &[u8]) -> [f32; BLOCKS]
     requires { ⌜ length (now bytes) ≡ 4096 ⌝ }
     ensures { λ r. ⌜ r ≡ tab (voteFrom (now (bytes .entry))) blockCount ⌝ }
 {
-    let mut votes = [0.0f32; 1024];
-    for k in 0..1024usize {
+    let mut votes = [0.0f32; BLOCKS];
+    for k in 0..BLOCKS {
         let i = 4 * k;
         let word = seq::little_endian(bytes[i], bytes[i + 1], bytes[i + 2], bytes[i + 3]);
         votes[k] = float::f32_from_bits(word);

@@ -16,29 +16,27 @@ use Rattle.float.specs.Base.{zero+, zero-}
 use Rattle.float_laws.specs.Values.{Within, Holds}
 use Rattle.float_laws.specs.Bounds.{holds-scaled, within-more, round-within, add-within, mul-within}
 use Rattle.float_laws.specs.Shifted.{Room, room-power}
-use Rattle.resample_window.specs.Window.{Tap, taps, longestSide}
+use Rattle.resample_window.specs.Window.{Tap, taps}
+use Rattle.picture.specs.Sizes.{longestSide, rowOf, planeSize}
 use Rattle.resample_window_laws.specs.Reach.{reach, taps-few, taps-from, taps-room-down}
 use Rattle.resample_window_laws.specs.Weights.{weights-within}
 use Rattle.resample.specs.Tables.{noTap}
 use Rattle.resample.specs.Resampled.{tapTotal, across, resampled}
-use Rattle.resample.specs.Samples.{rowOf, sampleValue, lumaFrom, lumaAt, planeRow, planeOf, changeRow}
-
--- every sample is below 256; behind the last a list reads as 0
-abbrev pub ByteSamples : List ℕ → Type 0
-ByteSamples d = (p : ℕ) → getD d p 0 < 256
+use Rattle.resample.specs.Samples.{sampleValue, lumaFrom, lumaAt, planeRow, planeOf, changeRow}
+use Rattle.seq.specs.Bytes.{Bytes}
 
 -- ---- a luma
 
-value-within : (row : List ℕ) (p : ℕ) → ByteSamples row → Within (sampleValue row p) 255 1
+value-within : (row : List ℕ) (p : ℕ) → Bytes row → Within (sampleValue row p) 255 1
 unfolding ofInt
 value-within row p B = round-within binary32 _ (getD row p 0) 1 255 1 (zero-lt-suc 0) (zero-lt-suc 0) (holds-scaled binary32 255 0 (lit≤ tt) (lit≤ tt)) (let b : getD row p 0 < 256 = B p in omega arith)
 
 -- a constant that is at most n / 1024 times a sample
-part-within : (w : Float) (n : ℕ) (row : List ℕ) (p : ℕ) → n ≤ 1024 → ByteSamples row → Within w n 1024 → Within (mul binary32 w (sampleValue row p)) (n * 255) 1024
+part-within : (w : Float) (n : ℕ) (row : List ℕ) (p : ℕ) → n ≤ 1024 → Bytes row → Within w n 1024 → Within (mul binary32 w (sampleValue row p)) (n * 255) 1024
 part-within w n row p N B W = mul-within binary32 w (sampleValue row p) n 1024 255 1 (zero-lt-suc 1023) (zero-lt-suc 0) (holds-scaled binary32 (n * 255) 10 (lit≤ tt) (omega arith)) W (value-within row p B)
 
 -- 0.299, 0.587 and 0.114 are at most 307, 602 and 117 of 1024 parts, which with samples up to 255 stays below 256
-pub luma-within : (channels : ℕ) (row : List ℕ) (x : ℕ) → ByteSamples row → Within (lumaAt channels row x) (2 ^ 8) 1
+pub luma-within : (channels : ℕ) (row : List ℕ) (x : ℕ) → Bytes row → Within (lumaAt channels row x) (2 ^ 8) 1
 unfolding lumaFrom ofBits
 luma-within channels row x B =
     within-more (lumaAt channels row x) (307 * 255 + 602 * 255 + 117 * 255) 1024 (2 ^ 8) 1 (zero-lt-suc 1023)
@@ -90,20 +88,20 @@ resampled-within w h n m f y x c d a W H C D P Q F = axis-within zero+ h m y (λ
 
 -- ---- the plane
 
-below-take : (n : ℕ) (d : List ℕ) → ByteSamples d → ByteSamples (take n d)
+below-take : (n : ℕ) (d : List ℕ) → Bytes d → Bytes (take n d)
 below-take zero d B p = lit≤ tt
 below-take (suc n) [] B p = lit≤ tt
 below-take (suc n) (x ∷ d) B zero = B 0
 below-take (suc n) (x ∷ d) B (suc p) = below-take n d (λ q. B (suc q)) p
 
-pub row-below : (n : ℕ) (d : List ℕ) (y : ℕ) → ByteSamples d → ByteSamples (rowOf n d y)
+pub row-below : (n : ℕ) (d : List ℕ) (y : ℕ) → Bytes d → Bytes (rowOf n d y)
 unfolding rowOf
 row-below n d y B = below-take n (drop (y * n) d) (λ p. subst (λ (z : ℕ). z < 256) (sym (getD-drop (y * n) d p 0)) (B (y * n + p)))
 
 few-down : (src : ℕ) → src ≤ longestSide → 2 * reach src 256 ≤ 64
 few-down src h = omega (arith, taps-room-down src h)
 
-pub plane-within : (width height channels : ℕ) (samples : List ℕ) → 0 < width → width ≤ 8192 → 0 < height → height ≤ 8192 → ByteSamples samples → (p : ℕ) → p < 65536 → Within (getD (planeOf width height channels samples) p nan) (2 ^ 20) 1
+pub plane-within : (width height channels : ℕ) (samples : List ℕ) → 0 < width → width ≤ longestSide → 0 < height → height ≤ longestSide → Bytes samples → (p : ℕ) → p < planeSize → Within (getD (planeOf width height channels samples) p nan) (2 ^ 20) 1
 unfolding planeOf planeRow
 plane-within width height channels samples W W' H H' B p P =
     let row : ℕ → ℕ → Float = λ k. lumaAt channels (rowOf (width * channels) samples k) in
@@ -131,7 +129,7 @@ few-up dst h =
     omega arith
 
 -- 256 ≤ width, height: two taps an axis
-pub change-within : (width height : ℕ) (change : List Float) (k : ℕ) → 256 ≤ width → 256 ≤ height → k ≤ 100 → ((p : ℕ) → p < 65536 → Within (getD change p nan) (2 ^ k) 1) → (y x : ℕ) → x < width → Within (getD (changeRow width height change y) x nan) (2 ^ (k + 2)) 1
+pub change-within : (width height : ℕ) (change : List Float) (k : ℕ) → 256 ≤ width → 256 ≤ height → k ≤ 100 → ((p : ℕ) → p < planeSize → Within (getD change p nan) (2 ^ k) 1) → (y x : ℕ) → x < width → Within (getD (changeRow width height change y) x nan) (2 ^ (k + 2)) 1
 unfolding changeRow rowOf
 change-within width height change k W H K F y x X =
     let f : ℕ → ℕ → Float = λ r i. getD (rowOf 256 change r) i nan in

@@ -9,7 +9,7 @@ use lib.Seq.{length-take-le, getD-append-add, getD-drop, paste, take-all, drop-d
 use Rattle.seq.specs.Tab.{length-tab}
 use Rattle.seq.specs.Lists.{tab, filled, onPart}
 use Rattle.seq.specs.Rows.{row-fits}
-use Rattle.resample.specs.Samples.{Sized, rowOf}
+use Rattle.picture.specs.Sizes.{Sized, rowOf}
 
 -- ---- a list whose first places are made by a function
 

@@ -1,30 +1,15 @@
 -- Pictures of 8-bit samples with 3 or 4 channels, and the plane of 256 x 256 luma values: from samples to the plane, and a change of the plane put onto samples. Definitions only.
-use mathlib.Core.Path.{_≡_}
 use mathlib.Core.Bool.{cond}
 use mathlib.Core.List.{List}
-use Prim.Native.Nat.{ℕ, _+_, _*_, _/_, _%_, _≤_, _<_}
+use Prim.Native.Nat.{ℕ, _+_, _*_, _/_, _%_}
 use lib.Dec.{ltb}
 use lib.IntN.{pos}
-use lib.ListN.{length, take, drop, getD}
+use lib.ListN.{length, getD}
 use lib.Ieee.{Float, nan, binary32, ofBits, ofInt, add, mul}
 use Rattle.seq.specs.Lists.{tab, lines}
 use Rattle.float.specs.Calls.{roundedByte}
-use Rattle.resample_window.specs.Window.{longestSide}
+use Rattle.picture.specs.Sizes.{rowOf}
 use Rattle.resample.specs.Resampled.{across, resampled}
-
--- the sides and channels that a picture may have, and as many samples
-pub record Sized (width height channels : ℕ) (samples : List ℕ) : Type 0 where
-  pub wide : 0 < width
-  pub width-most : width ≤ longestSide
-  pub high : 0 < height
-  pub height-most : height ≤ longestSide
-  pub three : 3 ≤ channels
-  pub four : channels ≤ 4
-  pub full : length samples ≡ width * channels * height
-
--- row y of rows of n values
-unfoldable pub rowOf : {A : Type 0} → ℕ → List A → ℕ → List A
-rowOf n d y = take n (drop (y * n) d)
 
 -- ---- from samples to the plane
 

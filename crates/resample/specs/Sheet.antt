@@ -1,7 +1,6 @@
 -- Rows before columns, computed: the sums round, so the other order gives another value.
 use mathlib.Core.Path.{_≡_, refl}
 use mathlib.Core.List.{List, [], _∷_}
-use Prim.Native.Nat.{ℕ}
 use lib.ListN.{getD}
 use lib.Ieee.{Float, nan, binary32, ofBits, ofInt, toSigned, add, sub, mul, div, lt}
 use Rattle.float.specs.Calls.{floor, ceil, narrow, absolute, larger}

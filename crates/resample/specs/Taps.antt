@@ -12,7 +12,8 @@ use lib.Ieee.{Float, nan, binary32, add, mul}
 use Rattle.float.specs.Base.{zero-}
 use Rattle.seq.specs.Tab.{length-tab, getD-tab}
 use Rattle.seq.specs.Lists.{filled, tab, lines}
-use Rattle.resample_window.specs.Window.{Tap, longestSide, taps, start, tapSources, tapWeights, allTaps, onto}
+use Rattle.resample_window.specs.Window.{Tap, taps, start, tapSources, tapWeights, allTaps, onto}
+use Rattle.picture.specs.Sizes.{longestSide}
 use Rattle.resample_window.specs.Taps.{length-onto, start-none, start-more, start-rises}
 use Rattle.resample_window_laws.specs.Reach.{reach, taps-from, taps-few, taps-room-down, taps-room-up}
 use Rattle.resample.specs.Resampled.{tapTotal, across}

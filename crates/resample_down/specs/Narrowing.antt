@@ -5,7 +5,7 @@ use Prim.Native.Nat.{ℕ}
 use lib.ListN.{length}
 use lib.Ieee.{Float}
 use Rattle.seq.specs.Lists.{tab}
-use Rattle.resample.specs.Samples.{Sized}
+use Rattle.picture.specs.Sizes.{Sized}
 use Rattle.resample.specs.Tables.{Tables, KeptRows}
 use Rattle.resample_four.specs.Four.{shareAt, narrowFour}
 

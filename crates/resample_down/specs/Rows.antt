@@ -10,7 +10,8 @@ use Rattle.seq.specs.Tab.{length-tab, tab-same, getD-tab}
 use Rattle.seq.specs.Lists.{filled, tab}
 use Rattle.seq.specs.Lines.{length-lines, getD-lines, part-tab}
 use Rattle.resample_window.specs.Window.{taps}
-use Rattle.resample.specs.Samples.{lumaAt, rowOf, narrowRow, planeRow}
+use Rattle.resample.specs.Samples.{lumaAt, narrowRow, planeRow}
+use Rattle.picture.specs.Sizes.{rowOf}
 use Rattle.resample.specs.Resampled.{across, sumRows}
 use Rattle.resample.specs.Sums.{sumRows-all}
 use Rattle.resample_four.specs.Four.{cappedAt, lumaLine, narrowFour}

@@ -8,7 +8,8 @@ ghost use Prim.Native.Nat.{_+_, _<_, _≤_};
 ghost use lib.ListN.{length, take, drop};
 ghost use Rattle.seq.specs.Lists.{tab};
 ghost use Rattle.resample_window.specs.Window.{tapsOf, Small};
-ghost use Rattle.resample.specs.Samples.{Sized, narrowRow, planeRow, planeOf};
+ghost use Rattle.resample.specs.Samples.{narrowRow, planeRow, planeOf};
+ghost use Rattle.picture.specs.Sizes.{Sized, planeSize};
 ghost use Rattle.resample.specs.Tables.{addedAt};
 ghost use Rattle.resample.specs.Resampled.{sumRows};
 ghost use Rattle.resample_down.specs.Narrowing.{Narrowing};
@@ -207,7 +208,7 @@ fn plane_rows(
     held: &mut [u16],
     plane: &mut [f32],
 )
-    requires { ⌜ Narrowing width height channels (now samples) (now shares) (now offsets) (now index) (now weight) (now line) (now held) (now rows) × (length (now plane) ≡ 65536) ⌝ }
+    requires { ⌜ Narrowing width height channels (now samples) (now shares) (now offsets) (now index) (now weight) (now line) (now held) (now rows) × (length (now plane) ≡ planeSize) ⌝ }
     ensures { λ _. ⌜ now (plane .exit) ≡ planeOf width height channels (now (samples .entry)) ⌝ }
 {
     for y in 0..256usize {
@@ -233,7 +234,7 @@ fn plane_rows(
 
 // The plane of a picture.
 pub fn plane(samples: &[u8], width: usize, height: usize, channels: usize, plane: &mut [f32])
-    requires { ⌜ Sized width height channels (now samples) × (length (now plane) ≡ 65536) ⌝ }
+    requires { ⌜ Sized width height channels (now samples) × (length (now plane) ≡ planeSize) ⌝ }
     ensures { λ _. ⌜ now (plane .exit) ≡ planeOf width height channels (now (samples .entry)) ⌝ }
 {
     let mut products = [0.0f32; 768];

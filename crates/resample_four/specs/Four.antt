@@ -8,7 +8,8 @@ use lib.IntN.{pos}
 use lib.ListN.{getD}
 use lib.Ieee.{Float, nan, binary32, ofInt, mul}
 use Rattle.seq.specs.Lists.{filled, lines}
-use Rattle.resample.specs.Samples.{red, green, blue, rowOf, lumaAt, narrowRow}
+use Rattle.resample.specs.Samples.{red, green, blue, lumaAt, narrowRow}
+use Rattle.picture.specs.Sizes.{rowOf}
 
 -- ---- side by side
 

@@ -16,7 +16,8 @@ use Rattle.seq.specs.Tab.{length-tab, getD-tab, tab-same, filled-more}
 use Rattle.seq.specs.Lists.{tab, filled, lines}
 use Rattle.seq.specs.Lines.{lines-same, length-lines, getD-lines}
 use Rattle.resample.specs.Resampled.{across}
-use Rattle.resample.specs.Samples.{lumaFrom, rowOf, lumaAt, narrowRow}
+use Rattle.resample.specs.Samples.{lumaFrom, lumaAt, narrowRow}
+use Rattle.picture.specs.Sizes.{rowOf}
 use Rattle.resample.specs.Taps.{across-same}
 use Rattle.resample_four.specs.Four.{ofFour, beside, lane, lumaWeights, shareAt, cappedAt, fourAt, lumaLine, narrowFour}
 

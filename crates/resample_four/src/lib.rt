@@ -7,7 +7,8 @@ ghost use lib.ListN.{length, getD, set};
 ghost use lib.Ieee.{nan};
 ghost use Rattle.seq.specs.Lists.{tab, filled, lines};
 ghost use Rattle.resample.specs.Resampled.{across};
-ghost use Rattle.resample.specs.Samples.{Sized, lumaFrom, lumaAt};
+ghost use Rattle.resample.specs.Samples.{lumaFrom, lumaAt};
+ghost use Rattle.picture.specs.Sizes.{Sized, longestSide};
 ghost use Rattle.resample.specs.Tables.{Tables};
 ghost use Rattle.resample_four.specs.Four.{beside, ofFour, lane, shareAt, cappedAt, lumaLine, narrowFour};
 
@@ -50,7 +51,7 @@ fn luma_row(row: &[u8], channels: usize, shares: &[f32], out: &mut [f32])
 
 // The luma of a row of pixels: its samples are the picture's from the row's first to its last.
 pub fn luma(row: &[u8], channels: usize, out: &mut [f32])
-    requires { ⌜ (3 ≤ channels) × (channels ≤ 4) × (length (now row) ≡ length (now out) * channels) × (length (now out) ≤ 8192) ⌝ }
+    requires { ⌜ (3 ≤ channels) × (channels ≤ 4) × (length (now row) ≡ length (now out) * channels) × (length (now out) ≤ longestSide) ⌝ }
     ensures { λ _. ⌜ now (out .exit) ≡ tab (lumaAt channels (now (row .entry))) (length (now (out .entry))) ⌝ }
 {
     let mut products = [0.0f32; 768];

@@ -8,7 +8,8 @@ use lib.Seq.{getD-drop, getD-take}
 use lib.Ieee.{Float, nan}
 use Rattle.seq.specs.Tab.{getD-tab}
 use Rattle.seq.specs.Lines.{lines-same, getD-lines}
-use Rattle.resample.specs.Samples.{Sized, rowOf, changeRow, changedAt, changedOf}
+use Rattle.resample.specs.Samples.{changeRow, changedAt, changedOf}
+use Rattle.picture.specs.Sizes.{Sized, rowOf}
 use Rattle.resample.specs.Pixels.{row-inside}
 use Rattle.resample_up.specs.Changed.{changedLine, changed-length, line-is}
 

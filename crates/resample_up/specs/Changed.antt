@@ -13,7 +13,8 @@ use Rattle.seq.specs.Tab.{length-tab, tab-same}
 use Rattle.seq.specs.Lists.{tab, lines, pasted, onPart}
 use Rattle.seq.specs.Lines.{part-tab, lines-same, lines-more, pasted-none, pasted-more, length-pasted, pasted-other}
 use Rattle.seq.specs.Rows.{row-fits}
-use Rattle.resample.specs.Samples.{rowOf, changeRow, changedAt, changedRow, changedOf}
+use Rattle.resample.specs.Samples.{changeRow, changedAt, changedRow, changedOf}
+use Rattle.picture.specs.Sizes.{rowOf}
 use Rattle.resample.specs.Pixels.{length-row, part-pasted}
 
 -- ---- lines of w places, pasted one after another

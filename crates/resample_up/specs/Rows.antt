@@ -6,7 +6,8 @@ use lib.ListN.{length, getD}
 use lib.Ieee.{Float, nan}
 use Rattle.seq.specs.Tab.{length-tab}
 use Rattle.resample_window.specs.Window.{taps}
-use Rattle.resample.specs.Samples.{rowOf, wideRow, changeRow}
+use Rattle.resample.specs.Samples.{wideRow, changeRow}
+use Rattle.picture.specs.Sizes.{rowOf}
 use Rattle.resample.specs.Resampled.{sumRows}
 use Rattle.resample.specs.Sums.{sumRows-all}
 

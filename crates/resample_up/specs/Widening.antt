@@ -6,9 +6,10 @@ use lib.ListN.{length}
 use lib.Ieee.{Float}
 use Rattle.resample.specs.Samples.{wideRow}
 use Rattle.resample.specs.Tables.{Tables, KeptRows}
+use Rattle.picture.specs.Sizes.{longestSide, planeSize}
 
 -- a change of the plane, the taps that bring its rows to the width, and rows of it that are kept
 pub record Widening (width : ℕ) (change : List Float) (offsets index : List ℕ) (weight : List Float) (held : List ℕ) (rows : List Float) : Type 0 where
-  pub plane : length change ≡ 65536
+  pub plane : length change ≡ planeSize
   pub tables : Tables 256 width offsets index weight
-  pub kept : KeptRows (wideRow width change) width 8192 2 held rows
+  pub kept : KeptRows (wideRow width change) width longestSide 2 held rows

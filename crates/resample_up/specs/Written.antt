@@ -15,7 +15,8 @@ use lib.Ieee.Bits.{is-true, is-false}
 use Rattle.seq.specs.Tab.{filled-more, filled-all}
 use Rattle.seq.specs.Lists.{tab, filled}
 use Rattle.float.specs.Calls.{roundedByte}
-use Rattle.resample.specs.Samples.{changedAt, sampleValue, rowOf, wideRow, changedRow}
+use Rattle.resample.specs.Samples.{changedAt, sampleValue, wideRow, changedRow}
+use Rattle.picture.specs.Sizes.{rowOf}
 use Rattle.resample.specs.Resampled.{across}
 use Rattle.resample.specs.Pixels.{filled-at, length-row}
 

@@ -10,7 +10,8 @@ ghost use lib.Ieee.{nan, binary32, add, ofInt};
 ghost use Rattle.seq.specs.Lists.{tab};
 ghost use Rattle.float.specs.Calls.{roundedByte};
 ghost use Rattle.resample_window.specs.Window.{tapsOf, Small};
-ghost use Rattle.resample.specs.Samples.{Sized, wideRow, changeRow, changedRow, changedOf};
+ghost use Rattle.resample.specs.Samples.{wideRow, changeRow, changedRow, changedOf};
+ghost use Rattle.picture.specs.Sizes.{Sized, longestSide, planeSize};
 ghost use Rattle.resample.specs.Tables.{Tables, addedAt};
 ghost use Rattle.resample.specs.Resampled.{sumRows};
 ghost use Rattle.resample_up.specs.Widening.{Widening};
@@ -34,7 +35,7 @@ fn wide_row(
     weight: &[f32],
     out: &mut [f32],
 )
-    requires { ⌜ (k < 256) × (length (now change) ≡ 65536) × Tables 256 (length (now out)) (now offsets) (now index) (now weight) ⌝ }
+    requires { ⌜ (k < 256) × (length (now change) ≡ planeSize) × Tables 256 (length (now out)) (now offsets) (now index) (now weight) ⌝ }
     ensures { λ _. ⌜ now (out .exit) ≡ wideRow (length (now (out .entry))) (now (change .entry)) k ⌝ }
 {
     let a = k * 256;
@@ -166,7 +167,7 @@ fn changed(sample: u8, delta: f32) -> u8
 
 // The row of samples, with the change of each pixel put onto its first three channels.
 fn write_row(row: &mut [u8], channels: usize, delta: &[f32])
-    requires { ⌜ (3 ≤ channels) × (channels ≤ 4) × (length (now row) ≡ length (now delta) * channels) × (length (now delta) ≤ 8192) ⌝ }
+    requires { ⌜ (3 ≤ channels) × (channels ≤ 4) × (length (now row) ≡ length (now delta) * channels) × (length (now delta) ≤ longestSide) ⌝ }
     ensures { λ _. ⌜ now (row .exit) ≡ changedRow channels (λ x. getD (now (delta .entry)) x nan) (now (row .entry)) ⌝ }
 {
     for x in 0..delta.len() {
@@ -212,7 +213,7 @@ pub fn change_samples(
     channels: usize,
     samples: &mut [u8],
 )
-    requires { ⌜ Sized width height channels (now samples) × (256 ≤ width) × (256 ≤ height) × (length (now change) ≡ 65536) ⌝ }
+    requires { ⌜ Sized width height channels (now samples) × (256 ≤ width) × (256 ≤ height) × (length (now change) ≡ planeSize) ⌝ }
     ensures { λ _. ⌜ now (samples .exit) ≡ changedOf width height channels (now (change .entry)) (now (samples .entry)) ⌝ }
 {
     let mut offsets = [0u16; 8193];

@@ -20,7 +20,8 @@ use Rattle.float_laws.specs.Values.{Within, Holds}
 use Rattle.float_laws.specs.Bounds.{holds-whole, round-within, within-more, add-within, sub-within, mul-within}
 use Rattle.float_laws.specs.Floors.{floor-bound, ceil-bound}
 use Rattle.resample_window.specs.declared.Window.{Window}
-use Rattle.resample_window.specs.Window.{scaleOf, centerOf, supportOf, unsummed, withSum, empty, longestSide, isSide, hasWindow, windowOf}
+use Rattle.resample_window.specs.Window.{scaleOf, centerOf, supportOf, unsummed, withSum, empty, isSide, hasWindow, windowOf}
+use Rattle.picture.specs.Sizes.{longestSide}
 
 -- ---- a window is that of an output sample that is there, or the one without a number
 

@@ -13,6 +13,7 @@ use Rattle.resample_window.specs.declared.Weight.{Weight}
 use Rattle.resample_window.specs.declared.Weight.the-variants.{Of, Nothing}
 use lib.ListN.{length, drop}
 use Rattle.seq.specs.Lists.{lines}
+use Rattle.picture.specs.Sizes.{longestSide}
 
 -- ---- a window
 
@@ -61,10 +62,6 @@ withSum w = record { first = w .first; last = w .last; center = w .center; suppo
 -- no number
 abbrev pub empty : Window
 empty = record { first = pos 0; last = negsuc 0; center = zero+; support = two-to 0; sum = zero+ }
-
--- sides are 1 to 8,192
-abbrev pub longestSide : ℕ
-longestSide = 8192
 
 abbrev pub isSide : ℕ → Bool
 isSide n = ltb 0 n && leb n longestSide

@@ -24,7 +24,8 @@ use Rattle.float_laws.specs.AddError.{dist, Near, add-near, size-within}
 use Rattle.float_laws.specs.Bounds.{holds-scaled, holds-whole, round-within, within-more, add-within, sub-within, mul-within}
 use Rattle.float_laws.specs.Floors.{floor-below, ceil-above}
 use Rattle.resample_window.specs.declared.Window.{Window}
-use Rattle.resample_window.specs.Window.{scaleOf, centerOf, supportOf, unsummed, longestSide, windowOf, numbers}
+use Rattle.resample_window.specs.Window.{scaleOf, centerOf, supportOf, unsummed, windowOf, numbers}
+use Rattle.picture.specs.Sizes.{longestSide}
 use Rattle.resample_window.specs.Signed.{diff-sign}
 use Rattle.resample_window.specs.Range.{whole-value, scale-is, scale-within, longest-times, center-within, support-within, window-cases, span}
 use Rattle.resample_window_laws.specs.Support.{natAbs-add}

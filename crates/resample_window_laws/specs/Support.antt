@@ -21,7 +21,8 @@ use Rattle.float_laws.specs.AddError.{size-within}
 use Rattle.float_laws.specs.Values.{Within, Holds}
 use Rattle.float_laws.specs.Bounds.{holds-whole, round-within}
 use Rattle.float.specs.Rounding.{round-shape}
-use Rattle.resample_window.specs.Window.{scaleOf, centerOf, supportOf, longestSide, windowOf, numbers}
+use Rattle.resample_window.specs.Window.{scaleOf, centerOf, supportOf, windowOf, numbers}
+use Rattle.picture.specs.Sizes.{longestSide}
 use Rattle.resample_window.specs.Range.{scale-is, first-within, last-within, span}
 
 -- ---- the support: at least 1, and at most any whole number r that is at least 1 and at least src / dst

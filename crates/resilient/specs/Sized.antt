@@ -5,7 +5,7 @@ use Prim.Native.Nat.{ℕ, _+_, _*_, _≤_, _<_}
 use native.Mathlib.Nat.{mul-assoc, mul-comm, mul-le-mul-right}
 use native.Mathlib.Omega.{arith}
 use lib.ListN.{length}
-use Rattle.resample.specs.Samples.{Sized}
+use Rattle.picture.specs.Sizes.{Sized, planeSize}
 use Rattle.picture.specs.declared.Picture.{Picture}
 use Rattle.admission.specs.Admission.{roomOf}
 use Rattle.admission.specs.Admitted.{Admitted}
@@ -25,6 +25,6 @@ module _ (parts : ℕ) (p : Picture) (samples : List ℕ) (work : ℕ) (a : Admi
       }
 
   -- and room for a plane
-  pub admitted-room : 1 ≤ parts → 65536 ≤ work
+  pub admitted-room : 1 ≤ parts → planeSize ≤ work
   unfolding roomOf
-  admitted-room h = omega (arith, a .room, mul-le-mul-right (65536 + p .width * p .height) h)
+  admitted-room h = omega (arith, a .room, mul-le-mul-right (planeSize + p .width * p .height) h)

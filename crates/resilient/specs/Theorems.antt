@@ -16,8 +16,10 @@ use Rattle.refusal.specs.declared.Answer.the-variants.{Done, Refused}
 use Rattle.record.specs.declared.Key.{Key}
 use Rattle.record.specs.declared.Lock.{Lock}
 use Rattle.record.specs.Answers.{readAs}
-use Rattle.resample.specs.Samples.{Sized, planeOf}
-use Rattle.resample.specs.Finite.{ByteSamples, plane-within}
+use Rattle.resample.specs.Samples.{planeOf}
+use Rattle.picture.specs.Sizes.{Sized, blockCount}
+use Rattle.resample.specs.Finite.{plane-within}
+use Rattle.seq.specs.Bytes.{Bytes}
 use Rattle.resample_up.specs.Alpha.{fourth-kept}
 use Rattle.plane.specs.Finite.{length-votes, votes-good}
 use Rattle.picture.specs.declared.Picture.{Picture}
@@ -25,7 +27,6 @@ use Rattle.admission.specs.Admission.{readAdmission}
 use Rattle.admission.specs.Admitted.{write-admitted, read-admitted}
 use Rattle.refusal.specs.Laws.{first-done}
 use Rattle.carrier.specs.Carrier.{markedSamples, pictureVotes}
-use Rattle.layout.specs.Layout.{blockCount}
 use Rattle.extract.specs.Extract.{votesReading}
 use Rattle.extract.specs.Laws.{all-good, reads-on}
 use Rattle.resilient.specs.Resilient.{writeAnswer, writtenOf, readingOf}
@@ -55,7 +56,7 @@ alpha-kept text lock p samples work four y x Y X = go (writeAnswer text lock p (
 
 -- ---- reading
 
-module _ (key : Key) (p : Picture) (samples : List ℕ) (work : List Float) (bytes : ByteSamples samples) (done : readAdmission p (length samples) (length work) ≡ Done) where
+module _ (key : Key) (p : Picture) (samples : List ℕ) (work : List Float) (bytes : Bytes samples) (done : readAdmission p (length samples) (length work) ≡ Done) where
   pub votes-in-unit : (b : ℕ) → b < blockCount → inUnit (getD (pictureVotes p samples) b nan) ≡ true
   unfolding pictureVotes
   votes-in-unit =

@@ -1,8 +1,12 @@
--- Numbers of four bytes: the lowest byte first, as RFC 8439 has words, and the highest first, as the record has its numbers.
--- Definitions only.
+-- Bytes, and numbers of four of them: the lowest byte first, as RFC 8439 has words, and the highest first, as the record has
+-- its numbers. Definitions only.
 use mathlib.Core.List.{List, [], _∷_}
-use Prim.Native.Nat.{ℕ, _+_, _*_, _/_, _%_, _^_}
+use Prim.Native.Nat.{ℕ, _+_, _*_, _/_, _%_, _^_, _<_}
 use lib.ListN.{getD}
+
+-- each entry is a byte
+abbrev pub Bytes : List ℕ → Type 0
+Bytes bs = (i : ℕ) → getD bs i 0 < 256
 
 -- the highest first: of a number, and the number that stands at k
 unfoldable pub bigEndian : ℕ → List ℕ

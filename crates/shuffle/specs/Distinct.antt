@@ -14,14 +14,9 @@ use Rattle.seq.specs.Tab.{length-tab, getD-tab}
 use Rattle.seq.specs.Lists.{tab}
 use Rattle.shuffle.specs.declared.Drawn.{Drawn}
 use Rattle.shuffle.specs.declared.Drawn.the-variants.{Found, End}
-use Rattle.shuffle.specs.Shuffle.{drawn, drawsFrom, exchanged, made, streamOf, shuffled, longest, shuffleOf}
+use Rattle.shuffle.specs.Shuffle.{drawn, drawsFrom, exchanged, made, streamOf, shuffled, longest, shuffleOf, PartOf}
 use Rattle.shuffle.specs.Draws.{drawn-below}
 use Rattle.shuffle.specs.Entries.{made-more, made-end}
-
--- a part of a permutation of the numbers below m
-pub record PartOf (m : ℕ) (l : List ℕ) : Type 0 where
-  pub below : (k : ℕ) → k < length l → getD l k 0 < m
-  pub once : (a b : ℕ) → a < length l → b < length l → getD l a 0 ≡ getD l b 0 → a ≡ b
 
 -- where the entry at place k stood before the entries i and j were exchanged
 module _ (i j : ℕ) where

@@ -8,7 +8,8 @@ use lib.ListN.{getD, take, replicate}
 use Rattle.seq.specs.Lists.{tab}
 use Rattle.chacha20.specs.Rfc8439.{quarter, quarterRound, innerBlock, rounds, initial, sums, serialized, blockFrom, chachaBlock, keystream}
 use Rattle.seq.specs.Bytes.{word, littleEndian}
-use Rattle.layout.specs.Layout.{blockCount, layout}
+use Rattle.layout.specs.Layout.{layout}
+use Rattle.picture.specs.Sizes.{blockCount}
 use Rattle.shuffle.specs.declared.Drawn.the-variants.{Found, End}
 use Rattle.shuffle.specs.Shuffle.{valueAt, limit, drawn, exchanged, made, shuffled, layoutKey}
 

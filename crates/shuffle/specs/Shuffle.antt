@@ -75,3 +75,8 @@ unfoldable pub layoutKey : List ℕ
 layoutKey =
     0x69 ∷ 0x77 ∷ 0x6d ∷ 0x20 ∷ 0x76 ∷ 0x33 ∷ 0x20 ∷ 0x70 ∷ 0x75 ∷ 0x62 ∷ 0x6c ∷ 0x69 ∷ 0x63 ∷ 0x20
     ∷ 0x6c ∷ 0x61 ∷ 0x79 ∷ 0x6f ∷ 0x75 ∷ 0x74 ∷ 0x20 ∷ 0x6b ∷ 0x65 ∷ 0x79 ∷ replicate 8 0
+
+-- a part of a permutation of the numbers below m
+pub record PartOf (m : ℕ) (l : List ℕ) : Type 0 where
+  pub below : (k : ℕ) → k < length l → getD l k 0 < m
+  pub once : (a b : ℕ) → a < length l → b < length l → getD l a 0 ≡ getD l b 0 → a ≡ b

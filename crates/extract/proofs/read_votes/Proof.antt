@@ -2,7 +2,6 @@
 use borrow.Author.Needs.{needs}
 use mathlib.Core.Path.{_≡_, sym, _∙_, ap}
 use denote.Ref.{now}
-use Rattle.refusal.specs.declared.Answer.{Answer}
 use Rattle.record.specs.Answers.{readAs}
 use Rattle.extract.specs.declared.Decoded.{Decoded}
 use Rattle.extract.specs.Extract.{recordOutcome, recordReading, votesOutcome, votesReading}

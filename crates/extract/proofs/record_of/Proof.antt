@@ -4,7 +4,7 @@ use borrow.Author.Tests.{eq-eqb, ne-eqb, lt-ltb, le-ltb}
 use native.Mathlib.Omega.{arith}
 use lib.ListN.{length}
 use denote.Ref.{now}
-use Rattle.layout.specs.Layout.{blockCount}
+use Rattle.picture.specs.Sizes.{blockCount}
 use Rattle.extract.specs.Extract.{recordOutcome, recordReading}
 use Rattle.extract.proofs.record_of.Statement.{statement}
 use Rattle.extract.proofs.record_of.Tie as tie

@@ -3,7 +3,8 @@ use mathlib.Core.Path.{_≡_, sym, ap, _∙_, subst}
 use mathlib.Core.List.{List}
 use Prim.Native.Nat.{ℕ, _<_}
 use lib.ListN.{getD}
-use Rattle.layout.specs.Layout.{blockCount, blockOf}
+use Rattle.layout.specs.Layout.{blockOf}
+use Rattle.picture.specs.Sizes.{blockCount}
 use Rattle.layout.specs.Permutation.{layout-undo}
 use borrow.Author.Needs.{needs}
 use Rattle.layout.proofs.block.Statement.{statement}

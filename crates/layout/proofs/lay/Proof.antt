@@ -4,7 +4,7 @@ use Prim.Native.Nat.{ℕ, _-_, _%_, _≤_, _<_}
 use native.Mathlib.Omega.{arith}
 use lib.ListN.{length, getD, length-set}
 use Rattle.encoder.specs.Ccsds131.{codedBits}
-use Rattle.layout.specs.Layout.{blockCount}
+use Rattle.picture.specs.Sizes.{blockCount}
 use Rattle.layout.specs.Loops.{scattered, scatter-none, scatter-more, laid-all}
 use borrow.Author.Needs.{needs}
 use Rattle.layout.proofs.lay.Statement.{statement}

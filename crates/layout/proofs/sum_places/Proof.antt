@@ -5,7 +5,8 @@ use native.Mathlib.Omega.{arith}
 use lib.Ieee.{nan, ofBits}
 use lib.ListN.{length, length-set}
 use Rattle.encoder.specs.Ccsds131.{codedBits}
-use Rattle.layout.specs.Layout.{blockCount, blockOf}
+use Rattle.layout.specs.Layout.{blockOf}
+use Rattle.picture.specs.Sizes.{blockCount}
 use Rattle.layout.specs.Places.{gather, gatherF, gathered, through}
 use Rattle.layout.specs.Loops.{gather-more}
 use borrow.Author.Needs.{needs}

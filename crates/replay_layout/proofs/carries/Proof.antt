@@ -1,6 +1,6 @@
 -- The measure is what is left of the places.
 use Prim.Native.Nat.{_≤_, _-_}
-use Rattle.layout.specs.Layout.{blockCount}
+use Rattle.picture.specs.Sizes.{blockCount}
 use borrow.Author.Needs.{needs}
 use Rattle.replay_layout.proofs.carries.Statement.{statement}
 use Rattle.replay_layout.proofs.carries.Tie as tie

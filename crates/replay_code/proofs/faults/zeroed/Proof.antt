@@ -1,7 +1,7 @@
 -- The measure is what is left of the blocks.
 use Prim.Native.Nat.{_≤_, _-_}
 use borrow.Author.Needs.{needs}
-use Rattle.layout.specs.Layout.{blockCount}
+use Rattle.picture.specs.Sizes.{blockCount}
 use Rattle.replay_code.proofs.faults.zeroed.Statement.{statement}
 use Rattle.replay_code.proofs.faults.zeroed.Tie as tie
 
