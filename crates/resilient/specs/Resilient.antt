@@ -1,7 +1,7 @@
 -- Writing a text into a picture, and reading it from a picture (sections 3, 4 and 18 of the scope). The first refusal that
 -- applies is given. Definitions only.
 use mathlib.Core.List.{List}
-use Prim.Native.Nat.{ℕ}
+use Prim.Native.Nat.{ℕ, _+_, _*_}
 use lib.ListN.{length}
 use lib.Ieee.{Float}
 use Rattle.refusal.specs.Numbers.{first}
@@ -59,3 +59,9 @@ unfoldable pub readingOf : Key → Picture → List ℕ → List Float → Read
 readingOf key p samples work =
     let a = readAdmission p (length samples) (length work) in
     record { reading = readingFrom a (pictureVotes p samples) key; work = ifDone a (cleared work) work }
+
+-- ---- places
+
+-- that of the fourth sample of pixel x of row y, where a pixel has four
+abbrev pub fourthSample : Picture → ℕ → ℕ → ℕ
+fourthSample p y x = y * (p .width * 4) + (x * 4 + 3)

@@ -2,7 +2,7 @@
 use mathlib.Core.Path.{refl}
 use Rattle.record_build.specs.Sheet.{none-passes, of-32-passes, of-33-refused}
 use Rattle.encoder.specs.Sheet.{zero-record, first-bit, last-bit}
-use Rattle.block.specs.Sheet.{marked-sheet, term-sheet, rest-sheet}
+use Rattle.block.specs.Sheet.{marked-sheet, term-sheet, rest-sheet, added-in-order, added-apart, taken-in-order, taken-apart, floor-after-u, summed-in-order}
 use Rattle.resample_window_laws.specs.Sheet.{halved, doubled}
 use Rattle.resample_up.specs.Sheet.{written}
 use Rattle.admission.specs.Admission.{shorter, longer, roomOf, admission, writeAdmission}
@@ -31,4 +31,10 @@ sheet = record {
   from-512 = halved;
   to-512 = doubled;
   sample-254 = written;
+  added-in-order = added-in-order;
+  added-apart = added-apart;
+  taken-in-order = taken-in-order;
+  taken-apart = taken-apart;
+  floor-after-u = floor-after-u;
+  summed-in-order = summed-in-order;
 }

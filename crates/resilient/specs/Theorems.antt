@@ -29,23 +29,19 @@ use Rattle.refusal.specs.Laws.{first-done}
 use Rattle.carrier.specs.Carrier.{markedSamples, pictureVotes}
 use Rattle.extract.specs.Extract.{votesReading}
 use Rattle.extract.specs.Laws.{all-good, reads-on}
-use Rattle.resilient.specs.Resilient.{writeAnswer, writtenOf, readingOf}
+use Rattle.resilient.specs.Resilient.{writeAnswer, writtenOf, readingOf, fourthSample}
 use Rattle.resilient.specs.Sized.{admitted-sized}
 use Rattle.resilient.specs.Left.{written-done, written-refused, read-done}
 
 -- ---- writing
 
--- the fourth sample of pixel x of row y
-abbrev fourth : Picture → ℕ → ℕ → ℕ
-fourth p y x = y * (p .width * 4) + (x * 4 + 3)
-
 pub alpha-kept : (text : List ℕ) (lock : Lock) (p : Picture) (samples : List ℕ) (work : List Float) → p .channels ≡ 4 → (y x : ℕ) → y < p .height → x < p .width
-    → getD (writtenOf text lock p samples work .samples) (fourth p y x) 0 ≡ getD samples (fourth p y x) 0
+    → getD (writtenOf text lock p samples work .samples) (fourthSample p y x) 0 ≡ getD samples (fourthSample p y x) 0
 unfolding markedSamples writeAnswer writtenOf
 alpha-kept text lock p samples work four y x Y X = go (writeAnswer text lock p (length samples) (length work)) refl
   where
     at : List ℕ → ℕ
-    at d = getD d (fourth p y x) 0
+    at d = getD d (fourthSample p y x) 0
 
     go : (a : Answer) → writeAnswer text lock p (length samples) (length work) ≡ a → at (writtenOf text lock p samples work .samples) ≡ at samples
     go Done e =

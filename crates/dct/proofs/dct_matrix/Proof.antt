@@ -1,34 +1,30 @@
 -- After p turns the first p values stand in their places; the measure is what is left of 64.
 use borrow.Author.Needs.{needs}
 use mathlib.Core.Path.{_≡_, refl, _∙_}
-use Prim.Native.Nat.{_-_, _/_, _%_, _≤_}
+use Prim.Native.Nat.{_-_, _/_, _%_}
 use native.Mathlib.Omega.{arith}
-use lib.ListN.{length, take}
 use lib.Ieee.{ofBits}
-use Rattle.seq.specs.Tab.{prefix-more, prefix-all}
-use Rattle.seq.specs.Lists.{tab}
+use Rattle.seq.specs.Fills.{Fills, fills-none, fills-more, fills-all}
 use Rattle.dct.specs.Matrix.{matrix, dctEntry}
 use Rattle.dct.specs.Columns.{table-grid}
 use Rattle.dct.proofs.dct_matrix.Statement.{statement}
 use Rattle.dct.proofs.dct_matrix.Tie as tie
 
 abbrev Inv-loop : tie.InvT-loop
-Inv-loop table m₀ p₀ m p = (table ≡ matrix) × (p ≤ 64) × (length m ≡ 64) × (take p m ≡ tab (λ q. dctEntry (q / 8) (q % 8)) p)
+Inv-loop table m₀ p₀ m p = (table ≡ matrix) × Fills (λ q. dctEntry (q / 8) (q % 8)) 64 p m
 
 abbrev μ-loop : tie.MeasureT-loop
 μ-loop table m₀ p₀ m p = 64 - p
 
 loop-holds : tie.Need-loop-holds Inv-loop μ-loop
-unfolding tab ofBits
-loop-holds c = (refl, search needs, refl, refl)
+unfolding ofBits
+loop-holds c = (refl, fills-none _ _ _ refl)
 
 loop-again : tie.Need-loop-again Inv-loop μ-loop
-loop-again c = (search needs, search needs, search needs, prefix-more _ _ _ _ (omega arith) (c .entry-at .ensures) (c .before .before .before .loop .inv .3))
+loop-again c = (search needs, fills-more (c .before .before .before .loop .inv .1) (omega arith) (c .entry-at .ensures))
 
 returns : tie.Need-returns Inv-loop μ-loop
-returns c =
-    let e : c .before .loop .p ≡ 64 = omega arith in
-    prefix-all _ _ _ (c .before .loop .inv .2) (rw e at (c .before .loop .inv .3)) ∙ table-grid dctEntry
+returns c = fills-all (c .before .loop .inv .1) (omega arith) ∙ table-grid dctEntry
 
 pub dct-matrix-spec : {M : Type 1} → statement M
 dct-matrix-spec =

@@ -1,11 +1,9 @@
 -- After p turns the first p values stand in their places; the measure is what is left of 64.
 use borrow.Author.Needs.{needs}
 use mathlib.Core.Path.{_≡_, refl, _∙_}
-use Prim.Native.Nat.{_-_, _/_, _%_, _≤_}
+use Prim.Native.Nat.{_-_, _/_, _%_}
 use native.Mathlib.Omega.{arith}
-use lib.ListN.{length, take}
-use Rattle.seq.specs.Tab.{prefix-more, prefix-all}
-use Rattle.seq.specs.Lists.{tab}
+use Rattle.seq.specs.Fills.{Fills, fills-none, fills-more, fills-all}
 use Rattle.dct.specs.Grid.{grid}
 use Rattle.dct.specs.Columns.{cell-grid, table-grid}
 use Rattle.dct.specs.Matrix.{dctEntry, dctTurned}
@@ -13,24 +11,22 @@ use Rattle.dct.proofs.dct_turned.Statement.{statement}
 use Rattle.dct.proofs.dct_turned.Tie as tie
 
 abbrev Inv-loop : tie.InvT-loop
-Inv-loop matrix m₀ p₀ m p = (matrix ≡ grid dctEntry) × (p ≤ 64) × (length m ≡ 64) × (take p m ≡ tab (λ q. dctTurned (q / 8) (q % 8)) p)
+Inv-loop matrix m₀ p₀ m p = (matrix ≡ grid dctEntry) × Fills (λ q. dctTurned (q / 8) (q % 8)) 64 p m
 
 abbrev μ-loop : tie.MeasureT-loop
 μ-loop matrix m₀ p₀ m p = 64 - p
 
 loop-holds : tie.Need-loop-holds Inv-loop μ-loop
-unfolding tab
-loop-holds c = (c .dct-matrix .ensures, search needs, refl, refl)
+loop-holds c = (c .dct-matrix .ensures, fills-none _ _ _ refl)
 
 loop-again : tie.Need-loop-again Inv-loop μ-loop
 loop-again c =
     let loop = c .before .loop in
-    (search needs, search needs, search needs, prefix-more _ _ _ _ (omega arith) (rw (loop .inv .0) (cell-grid dctEntry (loop .p % 8) (loop .p / 8) (omega arith) (omega arith))) (loop .inv .3))
+    let entry = cell-grid dctEntry (loop .p % 8) (loop .p / 8) (omega arith) (omega arith) in
+    (search needs, fills-more (loop .inv .1) (omega arith) (rw (loop .inv .0) entry))
 
 returns : tie.Need-returns Inv-loop μ-loop
-returns c =
-    let e : c .before .loop .p ≡ 64 = omega arith in
-    prefix-all _ _ _ (c .before .loop .inv .2) (rw e at (c .before .loop .inv .3)) ∙ table-grid dctTurned
+returns c = fills-all (c .before .loop .inv .1) (omega arith) ∙ table-grid dctTurned
 
 pub dct-turned-spec : {M : Type 1} → statement M
 dct-turned-spec =

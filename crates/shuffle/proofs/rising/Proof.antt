@@ -1,35 +1,26 @@
 -- The first k places hold their numbers, k rising.
 use borrow.Author.Needs.{needs}
-use mathlib.Core.Path.{_≡_, refl}
-use Prim.Native.Nat.{ℕ, _-_, _≤_, _<_}
+use mathlib.Core.Path.{refl}
+use Prim.Native.Nat.{ℕ, _-_}
 use native.Mathlib.Omega.{arith}
-use lib.ListN.{length, take, length-set}
-use Rattle.seq.specs.Tab.{prefix-more, prefix-all}
-use Rattle.seq.specs.Lists.{tab}
+use Rattle.seq.specs.Fills.{Fills, fills-none, fills-more, fills-all}
 use Rattle.shuffle.proofs.rising.Statement.{statement}
 use Rattle.shuffle.proofs.rising.Tie as tie
 
 abbrev Inv-loop : tie.InvT-loop
-Inv-loop list₀ k₀ list k = (k ≤ 4096) × (length list ≡ 4096) × (take k list ≡ tab (λ (i : ℕ). i) k)
+Inv-loop list₀ k₀ list k = Fills (λ (i : ℕ). i) 4096 k list
 
 abbrev μ-loop : tie.MeasureT-loop
 μ-loop list₀ k₀ list k = 4096 - k
 
 loop-holds : tie.Need-loop-holds Inv-loop μ-loop
-unfolding tab
-loop-holds c = (omega arith, refl, refl)
+loop-holds c = fills-none _ _ _ refl
 
 loop-again : tie.Need-loop-again Inv-loop μ-loop
-loop-again c =
-    let l = c .before .loop in
-    let h : l .k < length (l .list) = omega (arith, l .inv .1) in
-    (omega arith, simp length-set (l .inv .1), prefix-more (λ (i : ℕ). i) (l .k) (l .k) (l .list) h refl (l .inv .2))
+loop-again c = fills-more (c .before .loop .inv) (omega arith) refl
 
 returns : tie.Need-returns Inv-loop μ-loop
-returns c =
-    let l = c .before .loop in
-    let k : l .k ≡ 4096 = omega arith in
-    prefix-all (λ (i : ℕ). i) 4096 (l .list) (l .inv .1) (rw k at (l .inv .2))
+returns c = fills-all (c .before .loop .inv) (omega arith)
 
 pub rising-spec : {M : Type 1} → statement M
 rising-spec =
