@@ -3,7 +3,8 @@
 -- the list 0, 1, 2 and so on." For any stream and any length of list, and what `shuffle` gives. Definitions only.
 use mathlib.Core.Bool.{Bool, true, false, cond}
 use mathlib.Core.List.{List, [], _∷_}
-use Prim.Native.Nat.{ℕ, zero, suc, _+_, _-_, _*_, _/_, _%_, _^_, min}
+use mathlib.Core.Path.{_≡_}
+use Prim.Native.Nat.{ℕ, zero, suc, _+_, _-_, _*_, _/_, _%_, _^_, _<_, min}
 use lib.Dec.{leb, ltb}
 use lib.ListN.{length, getD, set, take, replicate}
 use Rattle.seq.specs.Lists.{tab}
