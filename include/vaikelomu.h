@@ -44,10 +44,16 @@
 extern "C" {
 #endif
 
+/* The version of this header, and of the archive as vaikelomu_version answers it. */
+#define VAIKELOMU_VERSION_MAJOR 0
+#define VAIKELOMU_VERSION_MINOR 1
+#define VAIKELOMU_VERSION_PATCH 0
+
 /* Sizes in bytes: the longest text, a key, and a salt. */
 #define VAIKELOMU_TEXT 32
 #define VAIKELOMU_KEY 32
 #define VAIKELOMU_SALT 4
+#define VAIKELOMU_RECORD 46
 
 /* How many votes a picture has: one for each of its blocks. */
 #define VAIKELOMU_VOTES 1024
@@ -139,6 +145,15 @@ uint8_t vaikelomu_read_votes(
     const float *votes, size_t votes_length,
     uint8_t keyed, const uint8_t key[VAIKELOMU_KEY],
     uint8_t text[VAIKELOMU_TEXT], size_t *length, uint64_t *given);
+
+/*
+ * The record that the votes of a picture's blocks decode to, whatever it holds. Refused (6, 15), it is zeros.
+ */
+uint8_t vaikelomu_record(
+    const float *votes, size_t votes_length, uint8_t record[VAIKELOMU_RECORD], uint64_t *given);
+
+/* The archive's version: major << 16 | minor << 8 | patch. */
+uint32_t vaikelomu_version(void);
 
 #ifdef __cplusplus
 }

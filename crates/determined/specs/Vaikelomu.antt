@@ -14,3 +14,9 @@ vaikelomu-read-one κs a x y p q i =
 pub vaikelomu-read-votes-one : Determined vaikelomu.vaikelomu_read_votes.ended vaikelomu.vaikelomu_read_votes.Reads.Post
 vaikelomu-read-votes-one κs a x y p q i =
     (one (p .0) (q .0) i, (tt, (tt, (tt, (one (p .1 .0) (q .1 .0) i, (one (p .1 .1 .0) (q .1 .1 .0) i, (one (p .1 .1 .1) (q .1 .1 .1) i, tt)))))))
+
+pub vaikelomu-record-one : Determined vaikelomu.vaikelomu_record.ended vaikelomu.vaikelomu_record.Reads.Post
+vaikelomu-record-one κs a x y p q i = (one (p .0) (q .0) i, (tt, (one (p .1 .0) (q .1 .0) i, (one (p .1 .1) (q .1 .1) i, tt))))
+
+pub vaikelomu-version-one : Determined vaikelomu.vaikelomu_version.ended vaikelomu.vaikelomu_version.Reads.Post
+vaikelomu-version-one κs a x y p q i = (one p q i, x .1)

@@ -1,7 +1,7 @@
 -- What C's calls leave, by what the mark's functions leave: `include/vaikelomu.h` says the same in words. Definitions only.
 use mathlib.Core.Bool.{Bool, not}
 use mathlib.Core.List.{List}
-use Prim.Native.Nat.{ℕ}
+use Prim.Native.Nat.{ℕ, _+_, _*_, _^_}
 use lib.Dec.{eqb}
 use lib.Ieee.{Float}
 use Rattle.record.specs.declared.Reading.{Reading}
@@ -9,6 +9,10 @@ use Rattle.record.specs.Given.{lockFrom, keyFrom}
 use Rattle.picture.specs.declared.Picture.{Picture}
 use Rattle.extract.specs.Extract.{votesReading}
 use Rattle.resilient.specs.Resilient.{Written, writtenOf, Read, readingOf}
+
+-- the version 0.1.0 as one number: the major, the minor and the patch number, the last two a byte each
+abbrev pub version : ℕ
+version = 0 * 2 ^ 16 + 1 * 2 ^ 8 + 0
 
 -- C's flag: every number but 0 says yes
 abbrev pub isSet : ℕ → Bool

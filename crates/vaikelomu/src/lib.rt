@@ -1,6 +1,7 @@
 // The mark from C, for the archive and everyone who links the static library: writing a text into a picture, reading
 // it, and reading it from votes. Numbers and lent memory only; nothing is asked of the caller but that the memory is
 // there. `include/vaikelomu.h` says in words what is promised here.
+use encoder::RECORD;
 use picture::Picture;
 use record::Key;
 use record::Lock;
@@ -8,7 +9,23 @@ use record::Reading;
 ghost use mathlib.Core.Path.{_≡_};
 ghost use Rattle.refusal.specs.Numbers.{codeOf, givenFor};
 ghost use Rattle.record.specs.Given.{lockFrom, keyFrom};
-ghost use Rattle.vaikelomu.specs.C.{isSet, pictureOf, writtenFor, readFor, votesFor};
+ghost use Rattle.extract.specs.Extract.{recordReading};
+ghost use Rattle.vaikelomu.specs.C.{version, isSet, pictureOf, writtenFor, readFor, votesFor};
+
+// The version of what C links, 0.1.0, as include/vaikelomu.h has it.
+const MAJOR: u32 = 0;
+
+const MINOR: u32 = 1;
+
+const PATCH: u32 = 0;
+
+// The version as one number, by which a host sees that header and archive belong together.
+#[no_mangle]
+pub extern "C" fn vaikelomu_version() -> u32
+    ensures { λ r. ⌜ r ≡ version ⌝ }
+{
+    MAJOR << 16 | MINOR << 8 | PATCH
+}
 
 fn picture_of(width: usize, height: usize, channels: usize) -> Picture
     ensures { λ r. ⌜ r ≡ pictureOf width height channels ⌝ }
@@ -125,4 +142,20 @@ pub extern "C" fn vaikelomu_read_votes(
 {
     let reading = extract::read_votes(votes, key_of(keyed, key));
     tell(reading, text, length, given)
+}
+
+// The record that the votes decode to. The answer is 0, with the record; or the refusal's number, with zeros, and `given`
+// becomes the number given with it.
+#[no_mangle]
+pub extern "C" fn vaikelomu_record(votes: &[f32], bytes: &mut [u8; RECORD], given: &mut u64) -> u8
+    ensures answer { λ r. ⌜ r ≡ codeOf (recordReading (now (votes .entry)) .answer) ⌝ }
+    ensures bytes { λ _. ⌜ now (bytes .exit) ≡ recordReading (now (votes .entry)) .bytes ⌝ }
+    ensures number { λ _. ⌜ now (given .exit) ≡ givenFor (recordReading (now (votes .entry)) .answer) ⌝ }
+{
+    let found = extract::record_of(votes);
+    let decoded = found.bytes;
+    let told = found.answer;
+    *bytes = decoded;
+    *given = refusal::given_for(told);
+    refusal::code(told)
 }
