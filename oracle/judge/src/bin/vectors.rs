@@ -225,7 +225,7 @@ fn decodings() -> Vec<String> {
     lines
 }
 
-fn convolution_lists() -> Vec<List> {
+fn code_lists() -> Vec<List> {
     let list = |name, about, lines| List { program: "replay_code", name, about, lines };
     vec![
         list(
@@ -648,7 +648,7 @@ fn main() -> std::io::Result<()> {
     lists.extend(utf8_lists());
     lists.extend(record_lists());
     lists.extend(layout_lists());
-    lists.extend(convolution_lists());
+    lists.extend(code_lists());
     lists.extend(block_lists());
     lists.extend(resample_lists());
     lists.extend(resilient_lists());
