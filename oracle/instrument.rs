@@ -84,6 +84,16 @@ pub mod stages {
         super::dct_matrix()
     }
 
+    /// A block out of a plane.
+    pub fn load_block(plane: &[f32], block: usize) -> [f32; 64] {
+        super::load_block(plane, block)
+    }
+
+    /// A block into a plane.
+    pub fn store_block(plane: &mut [f32], block: usize, values: &[f32; 64]) {
+        super::store_block(plane, block, values);
+    }
+
     /// Each block of a plane transformed, and transformed back, the matrix made once.
     pub fn there_and_back(plane: &mut [f32]) {
         let matrix = super::dct_matrix();

@@ -1,5 +1,5 @@
-// Replays stored answers for crates `layout`, `shuffle` and `dither`. The Rust's own: the layout, which our shuffle makes again, the
-// dither, and shuffles of many keys and lengths. No key at hand brings about a number that is drawn again, and the
+// Replays stored answers for the crates `layout`, `shuffle` and `dither`. The Rust's own: the layout, which our shuffle makes
+// again, the dither, and shuffles of many keys and lengths. No key at hand brings about a number that is drawn again, and the
 // Rust has no function for a single draw, so the answers for the draw on chosen values (accepted.txt) are the
 // oracle's: it computes them in oracle/judge/src/shuffles.rs by the formula that stands within the Rust's shuffle.
 // A case is two strings of bytes, the operand and the result, in which a number has its high byte first.

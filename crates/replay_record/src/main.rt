@@ -1,5 +1,6 @@
-// Replays the Rust's stored answers for the crates `build` and `parse`: data/build.txt has records built and texts refused, data/parse.txt
-// records read, damaged and refused. A case is six fields in both. Then texts too long for a list are built.
+// Replays the Rust's stored answers for the crates `record_build` and `record_parse`: data/build.txt has records built and
+// texts refused, data/parse.txt records read, damaged and refused. A case is six fields in both. Then texts too long for a
+// list are built.
 use record::Key;
 use record::Lock;
 use refusal::Answer;

@@ -1,4 +1,4 @@
-// The scope paper's run lines for the program `votes`, and others: the line for each stored input, by the function that the
+// The scope's lines for the program `votes`, and others: the line for each stored input, by the function that the
 // program calls.
 fn file(path: &[u8]) {
     let mut bytes = replay_lists::room();
@@ -36,6 +36,6 @@ fn main() {
     file(b"no_text");
     file(b"keyed");
     // The limit of demand 3: ten votes made zero leave two records alike, and the zero record is read, as
-    // `replay_convolution` shows. The line is refused since the CRC in this record is not that of its bytes.
+    // `replay_code` shows. The line is refused since the CRC in this record is not that of its bytes.
     file(b"limit");
 }

@@ -1,5 +1,6 @@
-// Replays the Rust's stored answers for the crates `window`, `lanes`, `downsample` and `upsample`: windows, the weights of source
-// numbers, the luma of rows, parts of the planes of pictures, and parts of pictures with a change put onto them.
+// Replays the Rust's stored answers for the crates `resample_window`, `resample_four`, `resample_down` and `resample_up`:
+// windows, the weights of source numbers, the luma of rows, parts of the planes of pictures, and parts of pictures with a
+// change put onto them.
 // A case is two strings of bytes, the operand and the result, in which a number has its high byte first; floats
 // stand by their bits, and whole numbers that have a sign as f64. Of a picture's samples a pattern is stored,
 // which is repeated as often as needed.

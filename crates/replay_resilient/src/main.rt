@@ -1,4 +1,4 @@
-// Replays the Rust's stored answers for the crates `resilient`, `picture` and `tally`: data/marks.txt has texts written
+// Replays the Rust's stored answers for the crates `resilient`, `admission` and `extract`: data/marks.txt has texts written
 // into pictures of 512 x 512, the smallest that can be written, and read from them. Then the limits of what is taken, and
 // which refusal is given where two apply; pictures of a few pixels and damaged ones, and votes under a key. All memory is
 // lent with something in it and looked at after each call: the samples by their CRC-32, the work area, which has room to

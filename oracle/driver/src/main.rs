@@ -4,7 +4,7 @@
 mod block;
 mod chacha20;
 mod change;
-mod convolution;
+mod code;
 mod crc32;
 mod damage;
 mod faults;
@@ -44,7 +44,7 @@ const STAGES: [(&str, Stage); 16] = [
     ("utf8", utf8::compare),
     ("record", record::compare),
     ("layout", layout::compare),
-    ("convolution", convolution::compare),
+    ("code", code::compare),
     ("block", block::compare),
     ("window", window::compare),
     ("luma", luma::compare),

@@ -1,5 +1,5 @@
 //! The stage order: every set of faults at once, held to a direct reading of the scope and not to the Rust. The first
-//! refusal that applies is given, and none where there is no fault.
+//! refusal that applies is given, and none where there is no fault. The version is held to the header's.
 
 use judge::picture::{Kind, Picture, samples};
 use judge::random::Random;
@@ -10,6 +10,7 @@ use judge::stages;
 
 use crate::tally::Tally;
 use crate::told::Told;
+use crate::votes::ToldRecord;
 use crate::{ours, read, votes, write};
 
 /// The faults of a set, of which bit n stands for the n-th.
@@ -177,7 +178,8 @@ fn told_of(set: u32, keyed: bool) -> Told {
     Told { number, given, length: TEXT.len(), text }
 }
 
-/// Number of votes, a bad vote, and the record's faults: all sets of them, plain and under a key.
+/// Number of votes, a bad vote, and the record's faults: all sets of them, plain and under a key. The record alone has no
+/// fault of its own.
 fn compare_votes(tally: &mut Tally, random: &mut Random) {
     for (set, keyed) in (0..1 << 9).flat_map(|set| [(set, false), (set, true)]) {
         let record = set >> 2;
@@ -190,20 +192,46 @@ fn compare_votes(tally: &mut Tally, random: &mut Random) {
             (votes[700], votes[701]) = (f32::NAN, 1.5);
         }
         let key = (keyed != has(record, 2)).then_some(KEY);
-        let Some(told) = votes::told(random, &votes, key) else {
-            return;
+        let (number, given) = match set & 3 {
+            0 => (0, 0),
+            2 => (15, 700),
+            _ => (6, 1_023),
         };
-        let expected = match set & 3 {
-            0 => told_of(record, keyed),
-            2 => refused((15, 700)),
-            _ => refused((6, 1_023)),
-        };
-        tally.count(told == expected, || {
-            format!(
-                "vaikelomu_read_votes, faults {set:09b}, {keyed}: ours {told:?}, said {expected:?}"
-            )
-        });
+        let what = format!("faults {set:09b}, {keyed}");
+        if let Some(told) = votes::told(random, &votes, key) {
+            let read = told_of(record, keyed);
+            let expected = if number == 0 { read } else { refused((number, given)) };
+            tally.count(told == expected, || {
+                format!("vaikelomu_read_votes, {what}: ours {told:?}, said {expected:?}")
+            });
+        }
+        if let Some(told) = votes::told_record(random, &votes) {
+            let record = if number == 0 { faulty(record, keyed) } else { [0; 46] };
+            let expected = ToldRecord { number, given, record };
+            tally.count(told == expected, || {
+                format!("vaikelomu_record, {what}: ours {told:?}, said {expected:?}")
+            });
+        }
     }
+}
+
+/// A number that the header defines.
+fn defined(name: &str) -> Option<u32> {
+    let header = include_str!("../../../include/vaikelomu.h");
+    let line = header.lines().find_map(|line| line.strip_prefix("#define ")?.strip_prefix(name));
+    line?.trim().parse().ok()
+}
+
+/// The version that the header defines.
+fn compare_version(tally: &mut Tally) {
+    let Some(ours) = ours::vaikelomu_version.function else {
+        return;
+    };
+    let parts =
+        ["MAJOR", "MINOR", "PATCH"].map(|part| defined(&format!("VAIKELOMU_VERSION_{part}")));
+    let version = unsafe { ours() };
+    let equal = parts == [version >> 16, version >> 8 & 255, version & 255].map(Some);
+    tally.count(equal, || format!("vaikelomu_version: ours {version:06x}, the header {parts:?}"));
 }
 
 /// The record's faults in a picture.
@@ -226,13 +254,19 @@ fn compare_marks(tally: &mut Tally, random: &mut Random) {
 
 pub fn compare(random: &mut Random, _scale: u64) -> Tally {
     let mut tally = Tally::default();
-    let names =
-        [ours::vaikelomu_write.name, ours::vaikelomu_read.name, ours::vaikelomu_read_votes.name];
+    let names = [
+        ours::vaikelomu_write.name,
+        ours::vaikelomu_read.name,
+        ours::vaikelomu_read_votes.name,
+        ours::vaikelomu_record.name,
+        ours::vaikelomu_version.name,
+    ];
     tally.missing.extend(names.iter().filter(|name| !ours::has(name)));
     compare_writes(&mut tally, random);
     compare_huge(&mut tally, random);
     compare_reads(&mut tally, random);
     compare_votes(&mut tally, random);
     compare_marks(&mut tally, random);
+    compare_version(&mut tally);
     tally
 }

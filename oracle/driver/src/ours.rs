@@ -100,6 +100,8 @@ ours! {
     vaikelomu_read_votes(
         *const f32, usize, u8, &[u8; 32], &mut [u8; 32], &mut usize, &mut u64
     ) -> u8;
+    vaikelomu_record(*const f32, usize, &mut [u8; 46], &mut u64) -> u8;
+    vaikelomu_version() -> u32;
 }
 
 /// Whether an archive has a function.

@@ -1,11 +1,13 @@
-//! The stage votes: sets of votes of all kinds, read with the right key, with a wrong one, with none and with one too many.
+//! The stage votes: sets of votes of all kinds, and the record that each gives; read with the right key, with a wrong one,
+//! with none and with one too many.
 
 use judge::random::Random;
+use judge::refusal::Refused;
 use judge::resilient::{self, Key};
 use judge::soft::{damaged_blocks, votes};
 
 use crate::tally::Tally;
-use crate::told::{Told, flag};
+use crate::told::{Told, flag, numbers};
 use crate::{ours, read, record};
 
 /// Vote sets at scale 1.
@@ -52,6 +54,34 @@ pub fn told(random: &mut Random, votes: &[f32], key: Option<Key>) -> Option<Told
     }))
 }
 
+type Record = unsafe extern "C" fn(*const f32, usize, &mut [u8; 46], &mut u64) -> u8;
+
+/// What is told of a record: the refusal's number or 0, the number given, and the record, zeros where refused.
+#[derive(Debug, PartialEq, Eq)]
+pub struct ToldRecord {
+    pub number: u8,
+    pub given: u64,
+    pub record: [u8; 46],
+}
+
+impl ToldRecord {
+    /// What is to be told of an answer.
+    fn of(answer: &Result<[u8; 46], Refused>) -> ToldRecord {
+        let (number, given) = numbers(answer);
+        ToldRecord { number, given, record: answer.as_ref().copied().unwrap_or([0; 46]) }
+    }
+}
+
+/// The record that ours tells, into memory that holds something else and is watched on both sides.
+pub fn told_record(random: &mut Random, votes: &[f32]) -> Option<ToldRecord> {
+    let ours: Record = ours::vaikelomu_record.function?;
+    let before: [[u8; 46]; 3] = std::array::from_fn(|_| random.array());
+    let (mut lent, mut given) = (before, random.next_u64());
+    let number = unsafe { ours(votes.as_ptr(), votes.len(), &mut lent[1], &mut given) };
+    assert!(lent[0] == before[0] && lent[2] == before[2], "written beside the record");
+    Some(ToldRecord { number, given, record: lent[1] })
+}
+
 /// A quarter are votes of any kind, a half the damaged votes of a record, and a quarter those with a few votes more of
 /// which some are bad, every fourth of them in another number.
 fn set(random: &mut Random, case: u64, record: &[u8; 46]) -> Vec<f32> {
@@ -78,22 +108,25 @@ fn set(random: &mut Random, case: u64, record: &[u8; 46]) -> Vec<f32> {
 
 pub fn compare(random: &mut Random, scale: u64) -> Tally {
     let mut tally = Tally::default();
-    if ours::vaikelomu_read_votes.function.is_none() {
-        tally.missing.push(ours::vaikelomu_read_votes.name);
-        return tally;
-    }
+    let names = [ours::vaikelomu_read_votes.name, ours::vaikelomu_record.name];
+    tally.missing.extend(names.iter().filter(|name| !ours::has(name)));
     for case in 0..scale * CASES {
         let right = random.array();
         let record = record::any(random, right);
         let votes = set(random, case, &record);
         let key = read::asked(random, &record, right);
-        let Some(told) = told(random, &votes, key) else {
-            return tally;
-        };
-        let expected = Told::of(&resilient::read_votes(&votes, key));
-        tally.count(told == expected, || {
-            format!("vaikelomu_read_votes, case {case}: ours {told:?}, Rust {expected:?}")
-        });
+        if let Some(told) = told(random, &votes, key) {
+            let expected = Told::of(&resilient::read_votes(&votes, key));
+            tally.count(told == expected, || {
+                format!("vaikelomu_read_votes, case {case}: ours {told:?}, Rust {expected:?}")
+            });
+        }
+        if let Some(told) = told_record(random, &votes) {
+            let expected = ToldRecord::of(&resilient::votes_record(&votes));
+            tally.count(told == expected, || {
+                format!("vaikelomu_record, case {case}: ours {told:?}, Rust {expected:?}")
+            });
+        }
     }
     tally
 }

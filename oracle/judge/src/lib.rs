@@ -4,6 +4,7 @@ pub mod cipher;
 pub mod edges;
 pub mod hex;
 pub mod marks;
+pub mod orders;
 pub mod picture;
 pub mod random;
 pub mod records;

@@ -60,13 +60,8 @@ pub fn locked_bits() -> String {
 /// Texts of no bytes, of some and of 32, and two that are refused, so that the picture stays without a mark; plain and
 /// under a key; each read without a key, with this one and with another.
 pub fn lines() -> Vec<String> {
-    let texts: [&[u8]; 5] = [
-        b"",
-        TEXT,
-        "NOAA 19 Kärdla 2026-11-15 05:46".as_bytes(),
-        &[b'a'; 33],
-        b"ab\xc3",
-    ];
+    let texts: [&[u8]; 5] =
+        [b"", TEXT, "NOAA 19 Kärdla 2026-11-15 05:46".as_bytes(), &[b'a'; 33], b"ab\xc3"];
     let (lock, mut random) = first_lock();
     let keys = [None, Some(lock.key), Some(random.array())];
     let mut lines = Vec::new();

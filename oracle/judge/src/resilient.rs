@@ -139,7 +139,8 @@ pub fn write(
     match (refusal, image) {
         (None, None) => unreachable!("samples that pass the scope have a container"),
         (None, Some(image)) => {
-            let marked = rust_write(image, text, lock).expect("the Rust takes what 01 takes");
+            let marked =
+                rust_write(image, text, lock).expect("the Rust takes what the scope takes");
             Ok(samples_of(marked))
         }
         (Some(refused), Some(image)) if is_own(refused) => {
@@ -175,8 +176,7 @@ pub fn read(
     if let Some(refused) = read_refusal(picture, samples.len(), work) {
         return Err(refused);
     }
-    let image =
-        container(picture, samples).expect("samples that pass the scope have a container");
+    let image = container(picture, samples).expect("samples that pass the scope have a container");
     let answer = match key {
         None => invisible_watermark::extract_resilient(&image),
         Some(key) => {
@@ -208,15 +208,20 @@ pub fn samples_refusal(picture: Picture, length: usize) -> Option<Refused> {
     read_refusal(picture, length, usize::MAX)
 }
 
-/// The text that votes give.
-pub fn read_votes(votes: &[f32], key: Option<Key>) -> Result<String, Refused> {
+/// The record that votes give.
+pub fn votes_record(votes: &[f32]) -> Result<[u8; 46], Refused> {
     let Ok(blocks) = <&[f32; BLOCKS]>::try_from(votes) else {
         return Err(Refused::new(6, votes.len() as u64));
     };
     if let Some(index) = votes.iter().position(|vote| !(-1.0..=1.0).contains(vote)) {
         return Err(Refused::new(15, index as u64));
     }
-    parse(record_of_votes(blocks), key)
+    Ok(record_of_votes(blocks))
+}
+
+/// The text that votes give.
+pub fn read_votes(votes: &[f32], key: Option<Key>) -> Result<String, Refused> {
+    parse(votes_record(votes)?, key)
 }
 
 /// The record of a text.

@@ -8,7 +8,7 @@ use std::path::Path;
 use judge::picture::{KINDS, Picture, samples};
 use judge::random::Random;
 use judge::soft::{damaged, sure, votes};
-use judge::{crc32, edges, hex, marks, records, shuffles, stages, texts};
+use judge::{crc32, edges, hex, marks, orders, records, shuffles, stages, texts};
 
 /// A replay program reads a list whole into a buffer of this size.
 const LARGEST: usize = 256 * 1_024;
@@ -225,7 +225,7 @@ fn decodings() -> Vec<String> {
     lines
 }
 
-fn convolution_lists() -> Vec<List> {
+fn code_lists() -> Vec<List> {
     let list = |name, about, lines| List { program: "replay_code", name, about, lines };
     vec![
         list(
@@ -331,42 +331,108 @@ fn blocks() -> Vec<[f32; 64]> {
     blocks
 }
 
-/// The block that a case stands in, for its dither.
-fn block_of_case(case: usize) -> usize {
-    23 * case + 5
+/// A block to be marked: where it stands, its values and its bit.
+struct Case {
+    number: usize,
+    values: [f32; 64],
+    bit: u8,
 }
 
-/// The place of a block's value in the plane.
-fn place(block: usize, index: usize) -> usize {
-    (block / 32 * 8 + index / 8) * 256 + block % 32 * 8 + index % 8
-}
-
-/// The block, its four dither numbers and its bit, 273 bytes.
-fn marking(case: usize, block: &[f32; 64]) -> String {
-    let at = 4 * block_of_case(case);
-    format!("{}{}{:02x}", floats(block), floats(&stages::dither()[at..at + 4]), case % 2)
-}
-
-/// What the Rust's `embed_bits` leaves of each block, and what `block_soft` says of it.
-fn marked_and_votes() -> (Vec<String>, Vec<String>) {
-    let blocks = blocks();
-    let mut plane = vec![0.0; 256 * 256];
-    let mut bits = [0; 1_024];
-    for (case, block) in blocks.iter().enumerate() {
-        bits[block_of_case(case)] = (case % 2) as u8;
-        for (index, &value) in block.iter().enumerate() {
-            plane[place(block_of_case(case), index)] = value;
-        }
+impl Case {
+    /// The values, the block's four dither numbers and the bit, 273 bytes.
+    fn operand(&self) -> Vec<u8> {
+        let dither = &stages::dither()[4 * self.number..4 * self.number + 4];
+        hex::to_bytes(&format!("{}{}{:02x}", floats(&self.values), floats(dither), self.bit))
+            .expect("digits")
     }
-    let soft = stages::block_soft(&plane);
-    stages::embed_bits(&mut plane, &bits);
-    let lines = blocks.iter().enumerate().map(|(case, block)| {
-        let number = block_of_case(case);
-        let after: [f32; 64] = std::array::from_fn(|index| plane[place(number, index)]);
-        let operand = marking(case, block);
-        (format!("{operand} {}", floats(&after)), format!("{operand} {}", single(soft[number])))
+}
+
+fn cases() -> Vec<Case> {
+    let case = |(case, values)| Case { number: 23 * case + 5, values, bit: (case % 2) as u8 };
+    blocks().into_iter().enumerate().map(case).collect()
+}
+
+/// How many cases show an exchange of operations, where chance alone gives none.
+const TELLING: usize = 6;
+
+/// A block of small values, whose coefficients have bits enough to show how they are added.
+fn small_case(random: &mut Random, number: usize) -> Case {
+    let size = [0.5, 1.0, 2.0, 4.0][random.below(4) as usize];
+    Case { number, values: votes(random, 0).map(|unit: f32| size * unit), bit: 1 }
+}
+
+/// A block whose coefficients lie about half-way between two that stand for its bit, so that the last bit decides.
+fn halfway_case(random: &mut Random, number: usize) -> Case {
+    let dither = stages::dither();
+    let mut values = [0.0; 64];
+    for (k, place) in [9, 10, 17, 18].into_iter().enumerate() {
+        let whole = random.below(6) as f32 - 3.0;
+        let off = (random.below(9) as f32 - 4.0) / 16_777_216.0;
+        values[place] = 16.0 * (dither[4 * number + k] + whole + off);
+    }
+    stages::inverse(&mut values);
+    Case { number, values, bit: 1 }
+}
+
+/// Blocks that show an exchange which too few of the others show.
+fn telling_cases(list: &str) -> Vec<Case> {
+    let mut random = Random::new(1_024);
+    let candidates = (0..4_096).flat_map(|case| {
+        let number = case % 1_024;
+        [small_case(&mut random, number), halfway_case(&mut random, number)]
     });
-    lines.unzip()
+    let candidates: Vec<Case> = candidates.collect();
+    let there: Vec<Vec<u8>> = cases().iter().map(Case::operand).collect();
+    let picked = orders::telling(list, &there, candidates.iter().map(Case::operand), TELLING);
+    candidates.into_iter().filter(|case| picked.contains(&case.operand())).collect()
+}
+
+/// A plane with the block in its place and nothing else.
+fn plane_of(case: &Case) -> Vec<f32> {
+    let mut plane = vec![0.0; 256 * 256];
+    stages::store_block(&mut plane, case.number, &case.values);
+    plane
+}
+
+/// What the Rust's `embed_bits` leaves of the block.
+fn marked(case: &Case) -> String {
+    let mut plane = plane_of(case);
+    stages::embed_bits(&mut plane, &[case.bit; 1_024]);
+    let after = stages::load_block(&plane, case.number);
+    format!("{} {}", hex::of_bytes(&case.operand()), floats(&after))
+}
+
+/// What the Rust's `block_soft` says of the block.
+fn voted(case: &Case) -> String {
+    let soft = stages::block_soft(&plane_of(case));
+    format!("{} {}", hex::of_bytes(&case.operand()), single(soft[case.number]))
+}
+
+/// The four corners, and a block in each line of blocks, of which each stands in another column.
+fn places() -> Vec<usize> {
+    let lines = (0..32).map(|line| 32 * line + (5 * line + 3) % 32);
+    [0, 31, 992, 1_023].into_iter().chain(lines).collect()
+}
+
+/// A plane in which place p holds p.
+fn numbered() -> Vec<f32> {
+    (0..256 * 256).map(|place| place as f32).collect()
+}
+
+fn loaded(block: usize) -> String {
+    format!("{block:04x} {}", floats(&stages::load_block(&numbered(), block)))
+}
+
+/// Where the values -1, -2 and so on to -64 stand once they are stored, where no other place has changed.
+fn stored(block: usize) -> String {
+    let mut plane = numbered();
+    let values = std::array::from_fn(|index| -1.0 - index as f32);
+    stages::store_block(&mut plane, block, &values);
+    let changed = plane.iter().zip(numbered()).filter(|(now, before)| **now != *before).count();
+    assert_eq!(changed, 64, "one place for each value");
+    let place = |value: &f32| plane.iter().position(|now| now == value).expect("a place");
+    let places: String = values.iter().map(|value| format!("{:04x}", place(value))).collect();
+    format!("{block:04x} {places}")
 }
 
 fn transformed(transform: fn(&mut [f32; 64])) -> Vec<String> {
@@ -382,7 +448,8 @@ fn transformed(transform: fn(&mut [f32; 64])) -> Vec<String> {
 
 fn block_lists() -> Vec<List> {
     let list = |name, about, lines| List { program: "replay_block", name, about, lines };
-    let (marked, votes) = marked_and_votes();
+    let marked = cases().iter().chain(&telling_cases("mark")).map(marked).collect();
+    let votes = cases().iter().chain(&telling_cases("vote")).map(voted).collect();
     vec![
         list("forward", "64 f32 and their transform.", transformed(stages::forward)),
         list(
@@ -399,6 +466,16 @@ fn block_lists() -> Vec<List> {
             "vote",
             "64 f32, four dither numbers and a byte that is not used; then the vote.",
             votes,
+        ),
+        list(
+            "load",
+            "a block, two bytes; its 64 values out of a plane in which place p holds p, f32.",
+            places().into_iter().map(loaded).collect(),
+        ),
+        list(
+            "store",
+            "a block, two bytes; where its values stand once stored, two bytes each.",
+            places().into_iter().map(stored).collect(),
         ),
     ]
 }
@@ -547,8 +624,35 @@ fn plane_parts() -> Vec<String> {
     parts
 }
 
-/// 64 samples of a picture with a change put onto it. Both repeat a few values, so that a line is short.
-fn change_part(case: usize, width: usize, height: usize, channels: usize) -> String {
+/// A change put onto a picture, and 64 samples of it to look at. Both repeat a few values, so that a line is short.
+struct Change {
+    picture: Picture,
+    place: usize,
+    values: Vec<f32>,
+    pattern: Vec<u8>,
+}
+
+impl Change {
+    fn operand(&self) -> Vec<u8> {
+        let Picture { width, height, channels } = self.picture;
+        let (place, count, values) = (self.place, self.values.len(), floats(&self.values));
+        let pattern = hex::of_bytes(&self.pattern);
+        let digits =
+            format!("{width:04x}{height:04x}{channels:02x}{place:08x}{count:02x}{values}{pattern}");
+        hex::to_bytes(&digits).expect("digits")
+    }
+
+    fn line(&self) -> String {
+        let Picture { width, height, channels } = self.picture;
+        let change: Vec<f32> = self.values.iter().copied().cycle().take(256 * 256).collect();
+        let mut bytes = repeated(&self.pattern, self.picture);
+        stages::change(&mut bytes, channels, width, height, &change);
+        let after = hex::of_bytes(&bytes[self.place..self.place + 64]);
+        format!("{} {after}", hex::of_bytes(&self.operand()))
+    }
+}
+
+fn change(case: usize, width: usize, height: usize, channels: usize) -> Change {
     const STEPS: [f32; 6] = [0.5, 8.0, 300.0, 0.001, 4e37, 64.0];
     let mut random = Random::new(case as u64);
     let step = STEPS[case % STEPS.len()];
@@ -556,17 +660,26 @@ fn change_part(case: usize, width: usize, height: usize, channels: usize) -> Str
     let pattern = random.bytes(251);
     let length = width * height * channels;
     let place = [0, length - 64, random.below(length as u64 - 64) as usize][case % 3];
-    let change: Vec<f32> = values.iter().copied().cycle().take(256 * 256).collect();
-    let mut bytes = repeated(&pattern, Picture { width, height, channels });
-    stages::change(&mut bytes, channels, width, height, &change);
-    let (count, values) = (values.len(), floats(&values));
-    let pattern = hex::of_bytes(&pattern);
-    let operand =
-        format!("{width:04x}{height:04x}{channels:02x}{place:08x}{count:02x}{values}{pattern}");
-    format!("{operand} {}", hex::of_bytes(&bytes[place..place + 64]))
+    Change { picture: Picture { width, height, channels }, place, values, pattern }
 }
 
-/// Pictures no smaller than the plane, and no larger than the replay program has room for: 512 x 512.
+/// A black picture, and a change so near a half that the last bit of a sum decides how it is rounded; at the first row, at
+/// the last, or where one row ends and the next begins.
+fn narrow_change(case: u64) -> Change {
+    let mut random = Random::new(case);
+    let [width, height] = [(); 2].map(|()| 257 + random.below(256) as usize);
+    let channels = 3 + random.below(2) as usize;
+    let half = 0.5 + random.below(4) as f32;
+    let values = (0..37).map(|_| f32::from_bits(half.to_bits() - 8 + random.below(17) as u32));
+    let values = values.collect();
+    let row = width * channels;
+    let place = [0, row * height - 64, row * (1 + random.below(200) as usize) - 32];
+    let place = place[case as usize % 3];
+    Change { picture: Picture { width, height, channels }, place, values, pattern: vec![0] }
+}
+
+/// Pictures no smaller than the plane, and no larger than the replay program has room for: 512 x 512. Then those that show an
+/// exchange of operations.
 fn change_parts() -> Vec<String> {
     let three = [256, 257, 263, 288, 307, 331, 341];
     let pairs = three.iter().flat_map(|&width| three.map(|height| (width, height, 3)));
@@ -575,8 +688,14 @@ fn change_parts() -> Vec<String> {
     let large = [(512, 300), (300, 512), (511, 509), (512, 512), (512, 512)];
     let large = large.into_iter().flat_map(|(width, height)| [3, 4].map(|n| (width, height, n)));
     let pictures = pictures.chain(four).chain(large).enumerate();
-    let line = |(case, (width, height, channels))| change_part(case, width, height, channels);
-    pictures.map(line).collect()
+    let change = |(case, (width, height, channels))| change(case, width, height, channels);
+    let mut changes: Vec<Change> = pictures.map(change).collect();
+    let there: Vec<Vec<u8>> = changes.iter().map(Change::operand).collect();
+    let candidates = || (0..4_096).map(narrow_change);
+    let picked =
+        orders::telling("change", &there, candidates().map(|change| change.operand()), TELLING);
+    changes.extend(candidates().filter(|change| picked.contains(&change.operand())));
+    changes.iter().map(Change::line).collect()
 }
 
 fn resample_lists() -> Vec<List> {
@@ -648,7 +767,7 @@ fn main() -> std::io::Result<()> {
     lists.extend(utf8_lists());
     lists.extend(record_lists());
     lists.extend(layout_lists());
-    lists.extend(convolution_lists());
+    lists.extend(code_lists());
     lists.extend(block_lists());
     lists.extend(resample_lists());
     lists.extend(resilient_lists());

@@ -1,4 +1,4 @@
-//! The stage convolution: the encoder, and the decoder's record and final metric.
+//! The stage code: the encoder, and the decoder's record and final metric.
 
 use judge::hex;
 use judge::random::Random;
