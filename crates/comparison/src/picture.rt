@@ -5,7 +5,8 @@ ghost use mathlib.Core.Path.{_≡_};
 ghost use Prim.Native.Nat.{_*_};
 ghost use lib.ListN.{length};
 ghost use Rattle.resample_window.specs.Window.{isSide, windowOf, weightOf};
-ghost use Rattle.comparison.specs.Stages.{numbersOf, partsOf, hasWeight, weightValue, hasSides, hasLuma, lumaInto, hasPlane, planeInto, hasChange, changeInto};
+ghost use Rattle.comparison.specs.Stages.{numbersOf, partsOf, hasWeight, weightValue, hasSides, hasLuma, lumaInto, hasPlane, planeInto};
+ghost use Rattle.comparison.specs.Stages.{hasChange, changeInto};
 
 // The first and the last source number; centre, support and sum.
 #[no_mangle]

@@ -81,8 +81,11 @@ fn luma_four(
     shares: &[f32],
     line: &mut [f32],
 )
-    requires { ⌜ (now shares ≡ tab shareAt 768) × (3 ≤ channels) × (4 * width ≤ length (now line)) × (length (now a) ≡ width * channels) × (length (now b) ≡ width * channels) × (length (now c) ≡ width * channels) × (length (now d) ≡ width * channels) ⌝ }
-    ensures { λ _. ⌜ now (line .exit) ≡ filled (beside (λ l. lumaAt channels (ofFour (now (a .entry)) (now (b .entry)) (now (c .entry)) (now (d .entry)) l))) (4 * width) (now (line .entry)) ⌝ }
+    requires { ⌜ (now shares ≡ tab shareAt 768) × (3 ≤ channels) × (4 * width ≤ length (now line)) × (length (now a) ≡ width * channels)
+        × (length (now b) ≡ width * channels) × (length (now c) ≡ width * channels) × (length (now d) ≡ width * channels) ⌝ }
+    ensures { λ _. ⌜ now (line .exit)
+        ≡ filled (beside (λ l. lumaAt channels (ofFour (now (a .entry)) (now (b .entry)) (now (c .entry)) (now (d .entry)) l))) (4 * width)
+        (now (line .entry)) ⌝ }
 {
     for x in 0..width {
         let p = x * channels;
@@ -172,7 +175,8 @@ pub fn narrow_four(
     line: &mut [f32],
     out: &mut [f32],
 )
-    requires { ⌜ Sized width height channels (now samples) × (now shares ≡ tab shareAt 768) × Tables width 256 (now offsets) (now index) (now weight) × (4 * g < height) × (4 * width ≤ length (now line)) × (length (now out) ≡ 1024) ⌝ }
+    requires { ⌜ Sized width height channels (now samples) × (now shares ≡ tab shareAt 768) × Tables width 256 (now offsets) (now index) (now weight)
+        × (4 * g < height) × (4 * width ≤ length (now line)) × (length (now out) ≡ 1024) ⌝ }
     ensures line { λ _. ⌜ now (line .exit) ≡ lumaLine width height channels (now (samples .entry)) g (now (line .entry)) ⌝ }
     ensures rows { λ _. ⌜ now (out .exit) ≡ narrowFour width height channels (now (samples .entry)) g ⌝ }
 {

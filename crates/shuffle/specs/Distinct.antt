@@ -80,7 +80,8 @@ module _ (i j : ℕ) where
       below = λ k h. rw (getD-exchanged k) (part .below (before k) (before-below (length l) k hi hj (rw length-exchanged at h)));
       once = λ a b ha hb e.
           before-once a b
-          (part .once (before a) (before b) (before-below (length l) a hi hj (rw length-exchanged at ha)) (before-below (length l) b hi hj (rw length-exchanged at hb))
+          (part .once (before a) (before b) (before-below (length l) a hi hj (rw length-exchanged at ha))
+          (before-below (length l) b hi hj (rw length-exchanged at hb))
           (sym (getD-exchanged a) ∙ (e ∙ getD-exchanged b)));
     }
 
@@ -107,7 +108,8 @@ unfolding made
 made-part stream m zero i p l h part = take-part m i l part
 made-part stream m (suc n) i p l h part = go (drawn stream (length l - i) (drawsFrom p) p) refl (λ q k. made-part stream m n (i + 1) q k)
   where
-    go : (d : Drawn) → drawn stream (length l - i) (drawsFrom p) p ≡ d → ((q : ℕ) (k : List ℕ) → n + (i + 1) ≤ length k → PartOf m k → PartOf m (made stream n (i + 1) q k)) → PartOf m (made stream (suc n) i p l)
+    go : (d : Drawn) → drawn stream (length l - i) (drawsFrom p) p ≡ d
+        → ((q : ℕ) (k : List ℕ) → n + (i + 1) ≤ length k → PartOf m k → PartOf m (made stream n (i + 1) q k)) → PartOf m (made stream (suc n) i p l)
     go End e again = rw (made-end stream n i p l (suc n) refl e) (take-part m i l part)
     go (Found r q) e again =
         let hi : i < length l = omega arith in

@@ -52,5 +52,6 @@ exchanged-once = refl
 
 -- the layout begins as the shuffle of 1,024 with its key does; that it is that shuffle to its end is run
 layout-begins : shuffled layoutKey blockCount 2 ≡ take 2 layout
-unfolding layout layoutKey shuffled made drawn valueAt limit exchanged tab keystream chachaBlock blockFrom serialized littleEndian sums rounds innerBlock quarterRound quarter initial word
+unfolding layout layoutKey shuffled made drawn valueAt limit exchanged tab keystream chachaBlock blockFrom serialized littleEndian sums rounds innerBlock
+    quarterRound quarter initial word
 layout-begins = refl

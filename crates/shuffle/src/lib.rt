@@ -23,7 +23,8 @@ enum Drawn {
 // Answers their number, and the places beyond it hold 0. A `len` above 4,096 gives no entries.
 pub fn shuffle(key: &[u8; 32], len: usize, count: usize, entries: &mut [u16]) -> usize
     ensures number { λ r. ⌜ r ≡ length (shuffleOf (now (key .entry)) len count (length (now (entries .entry)))) ⌝ }
-    ensures lent { λ _. ⌜ now (entries .exit) ≡ lentFor (length (now (entries .entry))) (shuffleOf (now (key .entry)) len count (length (now (entries .entry)))) ⌝ }
+    ensures lent { λ _. ⌜ now (entries .exit)
+        ≡ lentFor (length (now (entries .entry))) (shuffleOf (now (key .entry)) len count (length (now (entries .entry)))) ⌝ }
 {
     let held = held(len);
     let wanted = least(least(count, held), entries.len());
@@ -60,7 +61,8 @@ fn rising() -> [u16; 4096]
 // Makes the first `count` entries in place, and answers how many were made before the keystream ended.
 fn permute(key: &[u8; 32], count: usize, list: &mut [u16]) -> usize
     requires { ⌜ count ≤ length (now list) ⌝ }
-    ensures { λ r. ⌜ (r ≤ count) × (length (now (list .exit)) ≡ length (now (list .entry))) × (take r (now (list .exit)) ≡ made (streamOf (now (key .entry))) count 0 0 (now (list .entry))) ⌝ }
+    ensures { λ r. ⌜ (r ≤ count) × (length (now (list .exit)) ≡ length (now (list .entry)))
+        × (take r (now (list .exit)) ≡ made (streamOf (now (key .entry))) count 0 0 (now (list .entry))) ⌝ }
 {
     let mut at: Position = 0;
     let mut i: usize = 0;

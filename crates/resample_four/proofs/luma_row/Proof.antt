@@ -13,14 +13,22 @@ use Rattle.resample_four.proofs.luma_row.Statement.{statement}
 use Rattle.resample_four.proofs.luma_row.Tie as tie
 
 abbrev Inv-loop : tie.InvT-loop
-Inv-loop row channels shares out₀ x₀ x-end out x = (x-end ≡ length out₀) × (x ≤ x-end) × (length out ≡ length out₀) × (out ≡ filled (lumaAt channels row) x out₀)
+Inv-loop row channels shares out₀ x₀ x-end out x =
+    (x-end ≡ length out₀) × (x ≤ x-end) × (length out ≡ length out₀) × (out ≡ filled (lumaAt channels row) x out₀)
 
 abbrev μ-loop : tie.MeasureT-loop
 μ-loop row channels shares out₀ x₀ x-end out x = x-end - x
 
 -- in a turn the pixel ends within the row
-fits : (c : tie.In-loop Inv-loop μ-loop) → c .before .loop .x * c .before .before .before .before .before .args .channels + c .before .before .before .before .before .args .channels ≤ length (now (c .before .before .before .before .before .args .row))
-fits c = let h : c .before .loop .x < length (now (c .before .before .before .before .before .args .out)) = omega arith in omega (arith, pixel-fits (c .before .loop .x) (c .before .before .before .before .before .args .channels) (length (now (c .before .before .before .before .before .args .out))) h)
+fits : (c : tie.In-loop Inv-loop μ-loop)
+    → c .before .loop .x * c .before .before .before .before .before .args .channels + c .before .before .before .before .before .args .channels ≤ length
+    (now (c .before .before .before .before .before .args .row))
+fits c = let h : c .before .loop .x < length (now (c .before .before .before .before .before .args .out)) = omega arith in
+    omega (
+      arith,
+      pixel-fits (c .before .loop .x) (c .before .before .before .before .before .args .channels)
+          (length (now (c .before .before .before .before .before .args .out))) h,
+    )
 
 loop-holds : tie.Need-loop-holds Inv-loop μ-loop
 loop-holds c = (search needs, search needs, refl, filled-none _ _)
@@ -35,8 +43,12 @@ loop-again : tie.Need-loop-again Inv-loop μ-loop
 loop-again c =
     let start = c .before .before .before .before .before .before .args in
     let at = c .before .before .loop in
-    let h : at .x < length (now (start .out)) = omega arith in
-    (search needs, search needs, search needs, rw (at .inv .3, c .luma-from .ensures) (filled-more (lumaAt (start .channels) (now (start .row))) (at .x) (now (start .out)) h))
+    let h : at .x < length (now (start .out)) = omega arith in (
+      search needs,
+      search needs,
+      search needs,
+      rw (at .inv .3, c .luma-from .ensures) (filled-more (lumaAt (start .channels) (now (start .row))) (at .x) (now (start .out)) h),
+    )
 
 returns : tie.Need-returns Inv-loop μ-loop
 returns c =
@@ -46,16 +58,5 @@ returns c =
 pub luma-row-spec : {M : Type 1} → statement M
 luma-row-spec =
     tie.close
-    (tie.spec
-    Inv-loop
-    μ-loop
-    loop-holds
-    mul-luma-from
-    luma-from-requires
-    (λ c. search needs)
-    (λ c. search needs)
-    (λ c. search needs)
-    (λ c. search needs)
-    loop-again
-    (λ c. search needs)
-    returns)
+    (tie.spec Inv-loop μ-loop loop-holds mul-luma-from luma-from-requires (λ c. search needs) (λ c. search needs) (λ c. search needs)
+    (λ c. search needs) loop-again (λ c. search needs) returns)
