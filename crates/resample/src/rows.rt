@@ -1,4 +1,4 @@
-// A row put through its taps, as `upsample` does it one by one, and a weighted row added to another, as both ways do.
+// A row put through its taps, as `resample_up` does it one by one, and a weighted row added to another, as both ways do.
 ghost use mathlib.Core.Path.{_≡_};
 ghost use Prim.Native.Nat.{_<_};
 ghost use lib.ListN.{length, getD};

@@ -1,4 +1,4 @@
-// Four rows at once, for the crate `downsample`. Their lumas stand side by side in a line, that of pixel x of row l in
+// Four rows at once, for the crate `resample_down`. Their lumas stand side by side in a line, that of pixel x of row l in
 // place 4 x + l, so that one instruction serves four sums, each in its own order; and a luma is put together from
 // products that are made once for a picture.
 ghost use mathlib.Core.Path.{_≡_};

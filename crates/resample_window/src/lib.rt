@@ -1,6 +1,6 @@
-// The triangle kernel of document 01, for the crates `downsample` and `upsample`: which source numbers each output sample reads, and
-// with what weights. `Window`, `tent`, `weight` and `taps` are those of the Rust. Every promise is an equation over
-// the definitions in specs/Window.antt; what bounds a window, its taps and its weights stands beside them.
+// The triangle kernel (section 15 of the scope): which source numbers each output sample reads, and with what weights.
+// `Window`, `tent`, `weight` and `taps` are those of the Rust. Every promise is an equation over the definitions in
+// specs/Window.antt; what bounds a window, its taps and its weights is the crate `resample_window_laws`.
 ghost use mathlib.Core.Path.{_≡_};
 ghost use Prim.Native.Nat.{_+_, _≤_, _<_, _^_};
 ghost use lib.IntN.{pos, _+ℤ_};

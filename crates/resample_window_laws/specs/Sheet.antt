@@ -1,4 +1,4 @@
--- The lines of document 01's sheet that concern the kernel, computed: 512 samples made 256, and 256 made 512.
+-- The lines of the sample sheet that concern the kernel, computed: 512 samples made 256, and 256 made 512.
 use mathlib.Core.Path.{_≡_, refl}
 use mathlib.Core.List.{List, [], _∷_}
 use Prim.Native.Nat.{ℕ}
