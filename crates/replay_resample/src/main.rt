@@ -87,7 +87,11 @@ fn made_luma(row: &[u8], channels: usize, out: &mut [f32], expected: &[u8]) -> b
     requires { ⌜ (3 ≤ channels) × (channels ≤ 4) × (length (now row) ≡ length (now out) * channels) × (length (now out) ≤ 64)
         × (length (now expected) ≡ 256) ⌝ }
 {
-    resample_four::luma(row, channels, out);
+    let mut products = [0.0f32; 768];
+    resample_four::shares(&mut products);
+    for x in 0..out.len() {
+        out[x] = resample_four::luma_from(row, x * channels, &products);
+    }
     same(out, expected)
 }
 

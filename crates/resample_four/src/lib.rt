@@ -8,7 +8,7 @@ ghost use lib.Ieee.{nan};
 ghost use Rattle.seq.specs.Lists.{tab, filled, lines};
 ghost use Rattle.resample.specs.Resampled.{across};
 ghost use Rattle.resample.specs.Samples.{lumaFrom, lumaAt};
-ghost use Rattle.picture.specs.Sizes.{Sized, longestSide};
+ghost use Rattle.picture.specs.Sizes.{Sized};
 ghost use Rattle.resample.specs.Tables.{Tables};
 ghost use Rattle.resample_four.specs.Four.{beside, ofFour, lane, shareAt, cappedAt, lumaLine, narrowFour};
 
@@ -31,32 +31,13 @@ fn share_of(shares: &[f32], at: usize, v: u8) -> f32
 }
 
 // The luma of the pixel of a row whose samples start at place p.
-fn luma_from(row: &[u8], p: usize, shares: &[f32]) -> f32
+pub fn luma_from(row: &[u8], p: usize, shares: &[f32]) -> f32
     requires { ⌜ (now shares ≡ tab shareAt 768) × (p + 3 ≤ length (now row)) ⌝ }
     ensures { λ r. ⌜ r ≡ lumaFrom (now (row .entry)) p ⌝ }
 {
     share_of(shares, 0, row[p])
         + share_of(shares, 256, row[p + 1])
         + share_of(shares, 512, row[p + 2])
-}
-
-fn luma_row(row: &[u8], channels: usize, shares: &[f32], out: &mut [f32])
-    requires { ⌜ (now shares ≡ tab shareAt 768) × (3 ≤ channels) × (length (now row) ≡ length (now out) * channels) ⌝ }
-    ensures { λ _. ⌜ now (out .exit) ≡ tab (lumaAt channels (now (row .entry))) (length (now (out .entry))) ⌝ }
-{
-    for x in 0..out.len() {
-        out[x] = luma_from(row, x * channels, shares);
-    }
-}
-
-// The luma of a row of pixels: its samples are the picture's from the row's first to its last.
-pub fn luma(row: &[u8], channels: usize, out: &mut [f32])
-    requires { ⌜ (3 ≤ channels) × (channels ≤ 4) × (length (now row) ≡ length (now out) * channels) × (length (now out) ≤ longestSide) ⌝ }
-    ensures { λ _. ⌜ now (out .exit) ≡ tab (lumaAt channels (now (row .entry))) (length (now (out .entry))) ⌝ }
-{
-    let mut products = [0.0f32; 768];
-    shares(&mut products);
-    luma_row(row, channels, &products, out);
 }
 
 // Four values, the first in place q and each `step` places behind the one before it.

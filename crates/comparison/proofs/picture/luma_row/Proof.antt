@@ -9,8 +9,8 @@ use Rattle.seq.specs.Lists.{filled}
 use Rattle.resample.specs.Samples.{lumaAt}
 use Rattle.resample.specs.Pixels.{pixel-fits}
 use borrow.Author.Needs.{needs}
-use Rattle.resample_four.proofs.luma_row.Statement.{statement}
-use Rattle.resample_four.proofs.luma_row.Tie as tie
+use Rattle.comparison.proofs.picture.luma_row.Statement.{statement}
+use Rattle.comparison.proofs.picture.luma_row.Tie as tie
 
 abbrev Inv-loop : tie.InvT-loop
 Inv-loop row channels shares out₀ x₀ x-end out x =
@@ -19,16 +19,14 @@ Inv-loop row channels shares out₀ x₀ x-end out x =
 abbrev μ-loop : tie.MeasureT-loop
 μ-loop row channels shares out₀ x₀ x-end out x = x-end - x
 
+abbrev start : tie.In-loop Inv-loop μ-loop → tie.Start Inv-loop μ-loop
+start c = c .before .before .before .before .before
+
 -- in a turn the pixel ends within the row
-fits : (c : tie.In-loop Inv-loop μ-loop)
-    → c .before .loop .x * c .before .before .before .before .before .args .channels + c .before .before .before .before .before .args .channels ≤ length
-    (now (c .before .before .before .before .before .args .row))
-fits c = let h : c .before .loop .x < length (now (c .before .before .before .before .before .args .out)) = omega arith in
-    omega (
-      arith,
-      pixel-fits (c .before .loop .x) (c .before .before .before .before .before .args .channels)
-          (length (now (c .before .before .before .before .before .args .out))) h,
-    )
+fits : (c : tie.In-loop Inv-loop μ-loop) → c .before .loop .x * start c .args .channels + start c .args .channels ≤ length (now (start c .args .row))
+fits c =
+    let h : c .before .loop .x < length (now (start c .args .out)) = omega arith in
+    omega (arith, pixel-fits (c .before .loop .x) (start c .args .channels) (length (now (start c .args .out))) h)
 
 loop-holds : tie.Need-loop-holds Inv-loop μ-loop
 loop-holds c = (search needs, search needs, refl, filled-none _ _)
@@ -37,18 +35,14 @@ mul-luma-from : tie.Need-mul-luma-from Inv-loop μ-loop
 mul-luma-from c = record { fits = omega (arith, fits c) }
 
 luma-from-requires : tie.Need-luma-from-requires Inv-loop μ-loop
-luma-from-requires c κs = (c .before .before .before .before .before .pre .0, omega (arith, fits c))
+luma-from-requires c κs = (start c .pre .0, omega (arith, fits c))
 
 loop-again : tie.Need-loop-again Inv-loop μ-loop
 loop-again c =
-    let start = c .before .before .before .before .before .before .args in
+    let args = start (c .before) .args in
     let at = c .before .before .loop in
-    let h : at .x < length (now (start .out)) = omega arith in (
-      search needs,
-      search needs,
-      search needs,
-      rw (at .inv .3, c .luma-from .ensures) (filled-more (lumaAt (start .channels) (now (start .row))) (at .x) (now (start .out)) h),
-    )
+    let h : at .x < length (now (args .out)) = omega arith in
+    (search needs, search needs, search needs, rw (at .inv .3, c .luma-from .ensures) (filled-more (lumaAt (args .channels) (now (args .row))) (at .x) (now (args .out)) h))
 
 returns : tie.Need-returns Inv-loop μ-loop
 returns c =
