@@ -5,14 +5,15 @@ use Prim.Native.Nat.{ℕ, _-_, _≤_, _<_}
 use native.Mathlib.Omega.{arith}
 use lib.ListN.{length, take, length-set}
 use Rattle.seq.specs.Tab.{tab, prefix-more, prefix-all}
+use Rattle.shuffle.specs.Shuffle.{longestShuffle}
 use Rattle.shuffle.proofs.rising.Statement.{statement}
 use Rattle.shuffle.proofs.rising.Tie as tie
 
 abbrev Inv-loop : tie.InvT-loop
-Inv-loop list₀ k₀ list k = (k ≤ 4096) × (length list ≡ 4096) × (take k list ≡ tab (λ (i : ℕ). i) k)
+Inv-loop list₀ k₀ list k = (k ≤ longestShuffle) × (length list ≡ longestShuffle) × (take k list ≡ tab (λ (i : ℕ). i) k)
 
 abbrev μ-loop : tie.MeasureT-loop
-μ-loop list₀ k₀ list k = 4096 - k
+μ-loop list₀ k₀ list k = longestShuffle - k
 
 loop-holds : tie.Need-loop-holds Inv-loop μ-loop
 unfolding tab
@@ -27,8 +28,8 @@ loop-again c =
 returns : tie.Need-returns Inv-loop μ-loop
 returns c =
     let l = c .before .loop in
-    let k : l .k ≡ 4096 = omega arith in
-    prefix-all (λ (i : ℕ). i) 4096 (l .list) (l .inv .1) (rw k at (l .inv .2))
+    let k : l .k ≡ longestShuffle = omega arith in
+    prefix-all (λ (i : ℕ). i) longestShuffle (l .list) (l .inv .1) (rw k at (l .inv .2))
 
 pub rising-spec : {M : Type 1} → statement M
 rising-spec =
