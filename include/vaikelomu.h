@@ -49,7 +49,7 @@ extern "C" {
 #define VAIKELOMU_VERSION_MINOR 1
 #define VAIKELOMU_VERSION_PATCH 0
 
-/* Sizes in bytes: the longest text, a key, and a salt. */
+/* Sizes in bytes: the longest text, a key, a salt, and a record. */
 #define VAIKELOMU_TEXT 32
 #define VAIKELOMU_KEY 32
 #define VAIKELOMU_SALT 4
@@ -91,6 +91,12 @@ enum vaikelomu_answer {
     VAIKELOMU_KEYSTREAM_END = 14,            /* the keystream ends too early: 0 */
     VAIKELOMU_BAD_VOTE = 15                  /* a vote that is not a number from -1 to 1: the place of the first */
 };
+
+/*
+ * The version of the archive: major << 16 | minor << 8 | patch. A host compares it with the three macros to see that the
+ * header and the archive belong together.
+ */
+uint32_t vaikelomu_version(void);
 
 /*
  * Writes a text into a picture's samples.
@@ -151,9 +157,6 @@ uint8_t vaikelomu_read_votes(
  */
 uint8_t vaikelomu_record(
     const float *votes, size_t votes_length, uint8_t record[VAIKELOMU_RECORD], uint64_t *given);
-
-/* The archive's version: major << 16 | minor << 8 | patch. */
-uint32_t vaikelomu_version(void);
 
 #ifdef __cplusplus
 }

@@ -22,7 +22,8 @@ module _ (p : Picture) where
   unfolding longer
   sides-most = go (ltb (p .width) (p .height)) (ltb→lt (p .width) (p .height)) (nltb→le (p .width) (p .height))
     where
-      go : (t : Bool) → (T t → p .width < p .height) → (T (not t) → p .height ≤ p .width) → (p .width ≤ cond t (p .height) (p .width)) × (p .height ≤ cond t (p .height) (p .width))
+      go : (t : Bool) → (T t → p .width < p .height) → (T (not t) → p .height ≤ p .width)
+          → (p .width ≤ cond t (p .height) (p .width)) × (p .height ≤ cond t (p .height) (p .width))
       go true a b = let h : p .width < p .height = a tt in (omega arith, omega arith)
       go false a b = let h : p .height ≤ p .width = b tt in (omega arith, omega arith)
 
@@ -31,7 +32,8 @@ module _ (p : Picture) where
   unfolding shorter
   sides-least = go (ltb (p .width) (p .height)) (ltb→lt (p .width) (p .height)) (nltb→le (p .width) (p .height))
     where
-      go : (t : Bool) → (T t → p .width < p .height) → (T (not t) → p .height ≤ p .width) → (cond t (p .width) (p .height) ≤ p .width) × (cond t (p .width) (p .height) ≤ p .height)
+      go : (t : Bool) → (T t → p .width < p .height) → (T (not t) → p .height ≤ p .width)
+          → (cond t (p .width) (p .height) ≤ p .width) × (cond t (p .width) (p .height) ≤ p .height)
       go true a b = let h : p .width < p .height = a tt in (omega arith, omega arith)
       go false a b = let h : p .height ≤ p .width = b tt in (omega arith, omega arith)
 

@@ -1,5 +1,8 @@
--- Bounds through the transforms, the marking and the vote. `Each x a`: the block's 64 values are finite and at most a in size. A pass gives each value as a sum of eight products with a constant that is at most 1/2, so at most 4 a; a transform is two passes.
--- Marking moves a coefficient by less than its step and a little. The vote of a block of such values lies from -1 to 1. A bound is n * 2 ^ k with n small enough that the format holds the sums, so 2 ^ 20, which bounds a plane of 8-bit samples, is one.
+-- Bounds through the transforms, the marking and the vote. `Each x a`: the block's 64 values are finite and at most a in size.
+-- A pass gives each value as a sum of eight products with a constant that is at most 1/2, so at most 4 a; a transform is two
+-- passes.
+-- Marking moves a coefficient by less than its step and a little. The vote of a block of such values lies from -1 to 1. A bound
+-- is n * 2 ^ k with n small enough that the format holds the sums, so 2 ^ 20, which bounds a plane of 8-bit samples, is one.
 use mathlib.Core.Path.{_≡_, refl, sym, _∙_, ap, subst}
 use mathlib.Core.Logic.{inl, inr}
 use mathlib.Core.Bool.{Bool, true, false, not}
@@ -69,10 +72,12 @@ entry-within k i K I =
 -- ---- the passes
 
 -- a sum of eight products
-sum-within : (w v : ℕ → Float) (a : ℕ) → Room binary32 8 a 2 → ((j : ℕ) → j < 8 → Within (w j) 1 2) → ((j : ℕ) → j < 8 → Within (v j) a 1) → Within (sumOfEight (λ j. mul binary32 (w j) (v j))) (4 * a) 1
+sum-within : (w v : ℕ → Float) (a : ℕ) → Room binary32 8 a 2 → ((j : ℕ) → j < 8 → Within (w j) 1 2) → ((j : ℕ) → j < 8 → Within (v j) a 1)
+    → Within (sumOfEight (λ j. mul binary32 (w j) (v j))) (4 * a) 1
 sum-within w v a A W X =
     within-more (sumOfEight (λ j. mul binary32 (w j) (v j))) (0 + 8 * a) 2 (4 * a) 1 (zero-lt-suc 1)
-    (sum-to-within binary32 zero- (λ j. mul binary32 (w j) (v j)) 8 a 0 2 (zero-lt-suc 1) (λ i I. let e : i * a ≡ 0 + i * a = omega arith in subst (λ (z : ℕ). Holds binary32 z 2) e (A i I)) (le-refl 0) product)
+    (sum-to-within binary32 zero- (λ j. mul binary32 (w j) (v j)) 8 a 0 2 (zero-lt-suc 1) (λ i I. let e : i * a ≡ 0 + i * a = omega arith in
+    subst (λ (z : ℕ). Holds binary32 z 2) e (A i I)) (le-refl 0) product)
     (omega arith)
   where
     product : (j : ℕ) → j < 8 → Within (mul binary32 (w j) (v j)) a 2
@@ -127,7 +132,8 @@ scaled-within : (v : Float) (n : ℕ) → n ≤ 2 ^ 24 → Within v (16 * n) 1 �
 scaled-within v n N h =
     let e : n * 16 ≡ 16 * n * 1 = omega arith in
     within-more (div binary32 v latticeStep) (16 * n * 1) (1 * 16) n 1 (zero-lt-suc 15)
-    (div-within binary32 v latticeStep false (16 * n) 1 16 1 (zero-lt-suc 0) (zero-lt-suc 15) (zero-lt-suc 0) (subst (λ (z : ℕ). Holds binary32 z 16) e (holds-shifted binary32 n 4 4 (lit≤ tt) (lit≤ tt) N)) h (refl, refl))
+    (div-within binary32 v latticeStep false (16 * n) 1 16 1 (zero-lt-suc 0) (zero-lt-suc 15) (zero-lt-suc 0)
+    (subst (λ (z : ℕ). Holds binary32 z 16) e (holds-shifted binary32 n 4 4 (lit≤ tt) (lit≤ tt) N)) h (refl, refl))
     (omega arith)
 
 -- one more, or one less, that is at most 1 in size
@@ -153,10 +159,12 @@ marked-cell x a (suc (suc (suc (suc k)))) X h = absurd (omega arith)
 
 pub vote-within : (u x : List Float) (n : ℕ) → n + 1 ≤ 2 ^ 24 → Dither u → EachWithin x (16 * n) → Within (voteOf u x) 1 1
 unfolding voteOf meanOfFour
-vote-within u x n N U X = mean-within binary32 _ (λ k K. term-of-within (getD x (getD coefficients k 0) nan) (getD u k nan) n N (marked-cell x (16 * n) k X K) (U k K))
+vote-within u x n N U X =
+    mean-within binary32 _ (λ k K. term-of-within (getD x (getD coefficients k 0) nan) (getD u k nan) n N (marked-cell x (16 * n) k X K) (U k K))
 
 -- the vote of a block of samples
-pub block-vote-within : (u x : List Float) (n k : ℕ) → 32 * n ≤ 2 ^ 24 → k ≤ 100 → n * 2 ^ k + 1 ≤ 2 ^ 24 → Dither u → EachWithin x (n * 2 ^ k) → Within (voteOf u (forwardOf x)) 1 1
+pub block-vote-within : (u x : List Float) (n k : ℕ) → 32 * n ≤ 2 ^ 24 → k ≤ 100 → n * 2 ^ k + 1 ≤ 2 ^ 24 → Dither u → EachWithin x (n * 2 ^ k)
+    → Within (voteOf u (forwardOf x)) 1 1
 block-vote-within u x n k N K M U X = vote-within u (forwardOf x) (n * 2 ^ k) M U (forward-within x n k N K X)
 
 -- ---- where a coefficient is not finite, its term and the vote are no number
@@ -179,7 +187,8 @@ unfolding sumTo add
 sum-none t zero k h e = absurd (omega arith)
 sum-none t (suc n) k h e =
     elim (eq-or-lt-of-le h) [
-      | inl i ↦ (let j : k ≡ n = omega arith in ap (add binary32 (sumTo (add binary32) zero- n t)) (ap t (sym j) ∙ e) ∙ add-none (sumTo (add binary32) zero- n t))
+      | inl i ↦ (let j : k ≡ n = omega arith in
+          ap (add binary32 (sumTo (add binary32) zero- n t)) (ap t (sym j) ∙ e) ∙ add-none (sumTo (add binary32) zero- n t))
       | inr l ↦ ap (λ (z : Float). add binary32 z (t n)) (sum-none t n k (omega arith) e)
     ]
 
@@ -199,10 +208,13 @@ marked-within v u h n N A U H =
     let s = add binary32 m u in
     let t = add binary32 s h in
     let Q : Within q n 1 = scaled-within v n (omega arith) A in
-    let M : Within m (n + 1 + 1) 1 = roundAway-within binary32 (sub binary32 d h) (n + 1 + 1) (holds-whole binary32 (n + 1 + 1) (omega arith)) (less d h (n + 1) (omega arith) (less q u n (omega arith) Q U) H) in
+    let M : Within m (n + 1 + 1) 1 =
+    roundAway-within binary32 (sub binary32 d h) (n + 1 + 1) (holds-whole binary32 (n + 1 + 1) (omega arith))
+    (less d h (n + 1) (omega arith) (less q u n (omega arith) Q U) H) in
     let E : Within t (n + 1 + 1 + 1 + 1) 1 = more s h (n + 1 + 1 + 1) (omega arith) (more m u (n + 1 + 1) (omega arith) M U) H in
     within-more (mul binary32 t latticeStep) ((n + 1 + 1 + 1 + 1) * 16) (1 * 1) (16 * (n + 4)) 1 (zero-lt-suc 0)
-    (mul-within binary32 t latticeStep (n + 1 + 1 + 1 + 1) 1 16 1 (zero-lt-suc 0) (zero-lt-suc 0) (holds-power binary32 (n + 1 + 1 + 1 + 1) 4 (lit≤ tt) (omega arith)) E (lit≤ tt))
+    (mul-within binary32 t latticeStep (n + 1 + 1 + 1 + 1) 1 16 1 (zero-lt-suc 0) (zero-lt-suc 0)
+    (holds-power binary32 (n + 1 + 1 + 1 + 1) 4 (lit≤ tt) (omega arith)) E (lit≤ tt))
     (omega arith)
 
 -- a store of a value within the bound keeps it, and any other place holds what it held
@@ -228,8 +240,10 @@ half-of-within (suc (suc b)) h = absurd (omega arith)
 pub mark-within : (u x : List Float) (bit n : ℕ) → bit ≤ 1 → n + 4 ≤ 2 ^ 24 → Dither u → EachWithin x (16 * n) → EachWithin (markedBlock u bit x) (16 * (n + 4))
 unfolding markedBlock
 mark-within u x bit n B N U X =
-    each-set x₃ 18 _ b (new (getD x₃ 18 nan) 3 (lit≤ tt) (beside x₂ 17 18 _ a (λ e. omega arith) (beside x₁ 10 18 _ a (λ e. omega arith) (beside x 9 18 _ a (λ e. omega arith) (X 2 2 (lit≤ tt) (lit≤ tt))))))
-    (each-set x₂ 17 _ b (new (getD x₂ 17 nan) 2 (lit≤ tt) (beside x₁ 10 17 _ a (λ e. omega arith) (beside x 9 17 _ a (λ e. omega arith) (X 2 1 (lit≤ tt) (lit≤ tt)))))
+    each-set x₃ 18 _ b (new (getD x₃ 18 nan) 3 (lit≤ tt)
+    (beside x₂ 17 18 _ a (λ e. omega arith) (beside x₁ 10 18 _ a (λ e. omega arith) (beside x 9 18 _ a (λ e. omega arith) (X 2 2 (lit≤ tt) (lit≤ tt))))))
+    (each-set x₂ 17 _ b (new (getD x₂ 17 nan) 2 (lit≤ tt)
+    (beside x₁ 10 17 _ a (λ e. omega arith) (beside x 9 17 _ a (λ e. omega arith) (X 2 1 (lit≤ tt) (lit≤ tt)))))
     (each-set x₁ 10 _ b (new (getD x₁ 10 nan) 1 (lit≤ tt) (beside x 9 10 _ a (λ e. omega arith) (X 1 2 (lit≤ tt) (lit≤ tt))))
     (each-set x 9 _ b (new (getD x 9 nan) 0 (lit≤ tt) (X 1 1 (lit≤ tt) (lit≤ tt)))
     (each-more x a b (omega arith) X))))
@@ -258,7 +272,8 @@ mark-within u x bit n B N U X =
 -- ---- a block that is transformed, marked and transformed back
 
 -- n * 2 ^ k with 4 more, as m * 2 ^ k is: m = 4 at k = 0, and m = 1 from k = 2 on
-module _ (u x : List Float) (bit n m k : ℕ) (B : bit ≤ 1) (N : 32 * (n + m) ≤ 2 ^ 24) (K : k ≤ 96) (M : 4 ≤ m * 2 ^ k) (L : n * 2 ^ k + 4 ≤ 2 ^ 24) (U : Dither u) (X : EachWithin x (n * 2 ^ k)) where
+module _ (u x : List Float) (bit n m k : ℕ) (B : bit ≤ 1) (N : 32 * (n + m) ≤ 2 ^ 24) (K : k ≤ 96) (M : 4 ≤ m * 2 ^ k) (L : n * 2 ^ k + 4 ≤ 2 ^ 24)
+    (U : Dither u) (X : EachWithin x (n * 2 ^ k)) where
   pub embed-coefficients : EachWithin (markedBlock u bit (forwardOf x)) (16 * ((n + m) * 2 ^ k))
   embed-coefficients =
       each-more (markedBlock u bit (forwardOf x)) (16 * (n * 2 ^ k + 4)) (16 * ((n + m) * 2 ^ k)) (omega (arith, add-mul n m (2 ^ k)))
@@ -276,7 +291,8 @@ module _ (u x : List Float) (bit n m k : ℕ) (B : bit ≤ 1) (N : 32 * (n + m) 
 -- its blocks
 pub load-within : (d : List Float) (a b : ℕ) → b < 1024 → ((p : ℕ) → p < planeSize → Within (getD d p nan) a 1) → EachWithin (loadOf d b) a
 unfolding loadOf
-load-within d a b B D r c R C = subst (λ (z : Float). Within z a 1) (sym (cell-grid (λ r c. getD d (lineAt b r + c) nan) r c R C)) (D (lineAt b r + c) (omega (arith, line-fits b r B R)))
+load-within d a b B D r c R C =
+    subst (λ (z : Float). Within z a 1) (sym (cell-grid (λ r c. getD d (lineAt b r + c) nan) r c R C)) (D (lineAt b r + c) (omega (arith, line-fits b r B R)))
 
 pub plane-vote-within : (x u : List Float) → EachWithin x (2 ^ 20) → Dither u → Within (voteOf u (forwardOf x)) 1 1
 plane-vote-within x u X U = block-vote-within u x 1 20 (lit≤ tt) (lit≤ tt) (lit≤ tt) U X
@@ -290,5 +306,6 @@ module _ (u x : List Float) (bit : ℕ) (B : bit ≤ 1) (U : Dither u) (X : Each
   marked-plane-within r c R C =
       let y = inverseOf (markedBlock u bit (forwardOf x)) in
       within-more (sub binary32 (cell y r c) (cell x r c)) (2 ^ 28 + 2 ^ 10 + 2 ^ 20) 1 (2 ^ 29) 1 (zero-lt-suc 0)
-      (sub-within binary32 (cell y r c) (cell x r c) (2 ^ 28 + 2 ^ 10) (2 ^ 20) 1 (zero-lt-suc 0) (holds-power binary32 (2 ^ 18 + 1 + 2 ^ 10) 10 (lit≤ tt) (lit≤ tt)) (embedded r c R C) (X r c R C))
+      (sub-within binary32 (cell y r c) (cell x r c) (2 ^ 28 + 2 ^ 10) (2 ^ 20) 1 (zero-lt-suc 0)
+      (holds-power binary32 (2 ^ 18 + 1 + 2 ^ 10) 10 (lit≤ tt) (lit≤ tt)) (embedded r c R C) (X r c R C))
       (lit≤ tt)

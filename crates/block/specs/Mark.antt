@@ -1,4 +1,5 @@
--- Marking: a coefficient is moved to the nearest value that stands for the bit, on a lattice of step 16 that its dither number u shifts; a block's four marked coefficients. Definitions only.
+-- Marking: a coefficient is moved to the nearest value that stands for the bit, on a lattice of step 16 that its dither number
+-- u shifts; a block's four marked coefficients. Definitions only.
 use mathlib.Core.Bool.{false}
 use mathlib.Core.List.{List, [], _∷_}
 use Prim.Native.Nat.{ℕ, suc, _+_, _*_}

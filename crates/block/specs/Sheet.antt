@@ -1,5 +1,6 @@
 -- The lines of the sample sheet on marking and voting, computed: v = 8, u = 0, bit 0 gives 16, v = -8 gives -16, v = 8, bit 1 gives 8;
--- v = 8, u = 0 has the term -1, v = 4 the term 0, and a tiny negative x, whose r is exactly 1, the term 1. And lines that tell the orders of the operations apart.
+-- v = 8, u = 0 has the term -1, v = 4 the term 0, and a tiny negative x, whose r is exactly 1, the term 1. And lines that tell
+-- the orders of the operations apart.
 use mathlib.Core.Path.{_≡_, refl}
 use mathlib.Core.List.{[], _∷_}
 use lib.ListN.{getD}

@@ -27,7 +27,8 @@ lines-rise : (b r s : ℕ) → r < s → lineAt b r + 8 ≤ lineAt b s
 lines-rise b r s h = omega arith
 
 -- a place lies in one block
-apart : (y x r c v w s k : ℕ) → x < 32 → w < 32 → r < 8 → s < 8 → c < 8 → k < 8 → (y * 8 + r) * 256 + x * 8 + c ≡ (v * 8 + s) * 256 + w * 8 + k → (y ≡ v) × (x ≡ w)
+apart : (y x r c v w s k : ℕ) → x < 32 → w < 32 → r < 8 → s < 8 → c < 8 → k < 8 → (y * 8 + r) * 256 + x * 8 + c ≡ (v * 8 + s) * 256 + w * 8 + k
+    → (y ≡ v) × (x ≡ w)
 apart y x r c v w s k X W R S C K h = (omega arith, omega arith)
 
 place-once : (b e r s c k : ℕ) → r < 8 → s < 8 → c < 8 → k < 8 → lineAt b r + c ≡ lineAt e s + k → b ≡ e
@@ -75,4 +76,5 @@ module _ (d x : List Float) (b : ℕ) (B : b < blockCount) (long : planeSize ≤
   pub load-other : (e : ℕ) → (e ≡ b → ⊥) → loadOf (storedOf d b x) e ≡ loadOf d e
   unfolding loadOf
   load-other e n =
-      grid-same _ _ (λ s k S K. stored-other (lineAt e s + k) nan (λ r R. outside (lineAt e s + k) (lineAt b r) (λ c C h. n (place-once e b s r k c S R K C h))))
+      grid-same _ _ (λ s k S K. stored-other (lineAt e s + k) nan
+      (λ r R. outside (lineAt e s + k) (lineAt b r) (λ c C h. n (place-once e b s r k c S R K C h))))

@@ -1,4 +1,4 @@
-// The 8x8 block of document 01, for the crate `marking`: the marking of a block's four coefficients with a bit, a
+// The 8x8 block (sections 13 and 14 of the scope), for the crate `plane`: the marking of a block's four coefficients with a bit, a
 // block's vote, and blocks out of the 256 x 256 plane and into it.
 // Every promise is an equation over the definitions in specs/, for every value, finite or not; that a vote of
 // values within a bound lies from -1 to 1, and how large values can become, are laws about those definitions.

@@ -12,7 +12,8 @@ ghost use Rattle.carrier.specs.Carrier.{cleared, markedSamples, pictureV
 
 // Puts the blocks' bits into a picture's samples. `plane` becomes the picture's plane, and then the change of it.
 fn put_bits(samples: &mut [u8], p: Picture, bits: &[u8; BLOCKS], plane: &mut [f32])
-    requires { ⌜ Sized (p .width) (p .height) (p .channels) (now samples) × (shortestToWrite ≤ p .width) × (shortestToWrite ≤ p .height) × (length (now plane) ≡ planeSize) ⌝ }
+    requires { ⌜ Sized (p .width) (p .height) (p .channels) (now samples) × (shortestToWrite ≤ p .width) × (shortestToWrite ≤ p .height)
+        × (length (now plane) ≡ planeSize) ⌝ }
     ensures length { λ _. ⌜ length (now (plane .exit)) ≡ planeSize ⌝ }
     ensures marked { λ _. ⌜ now (samples .exit) ≡ markedSamples p (now (bits .entry)) (now (samples .entry)) ⌝ }
 {
@@ -23,7 +24,8 @@ fn put_bits(samples: &mut [u8], p: Picture, bits: &[u8; BLOCKS], plane: &mut [f3
 
 // The bits of a picture's blocks put into its samples, in a work area that has room for the plane and ends as zeros.
 pub fn mark(samples: &mut [u8], p: Picture, bits: &[u8; BLOCKS], work: &mut [f32])
-    requires { ⌜ Sized (p .width) (p .height) (p .channels) (now samples) × (shortestToWrite ≤ p .width) × (shortestToWrite ≤ p .height) × (planeSize ≤ length (now work)) ⌝ }
+    requires { ⌜ Sized (p .width) (p .height) (p .channels) (now samples) × (shortestToWrite ≤ p .width) × (shortestToWrite ≤ p .height)
+        × (planeSize ≤ length (now work)) ⌝ }
     ensures marked { λ _. ⌜ now (samples .exit) ≡ markedSamples p (now (bits .entry)) (now (samples .entry)) ⌝ }
     ensures cleared { λ _. ⌜ now (work .exit) ≡ cleared (now (work .entry)) ⌝ }
 {

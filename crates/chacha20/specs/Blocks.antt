@@ -20,7 +20,8 @@ block-counted key counter nonce = refl
 serialized-append : (xs ys : List ℕ) → serialized (xs ++ ys) ≡ serialized xs ++ serialized ys
 unfolding serialized
 serialized-append [] ys = refl
-serialized-append (x ∷ xs) ys = ap (λ (bs : List ℕ). littleEndian x ++ bs) (serialized-append xs ys) ∙ sym (append-assoc (littleEndian x) (serialized xs) (serialized ys))
+serialized-append (x ∷ xs) ys =
+    ap (λ (bs : List ℕ). littleEndian x ++ bs) (serialized-append xs ys) ∙ sym (append-assoc (littleEndian x) (serialized xs) (serialized ys))
 
 -- one word more
 pub serialized-more : (f : ℕ → ℕ) (n : ℕ) → serialized (tab f (n + 1)) ≡ serialized (tab f n) ++ littleEndian (f n)

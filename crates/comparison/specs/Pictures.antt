@@ -1,4 +1,5 @@
--- A window as two lists, its numbers and its parts, a weight as whether there is one and its value, which rows of samples have a luma, which pictures have a plane, and which take a change of it.
+-- A window as two lists, its numbers and its parts, a weight as whether there is one and its value, which rows of samples have
+-- a luma, which pictures have a plane, and which take a change of it.
 use mathlib.Core.Path.{_≡_, refl, sym, subst}
 use mathlib.Core.Bool.{Bool, true, false, _&&_, false≢true}
 use mathlib.Core.List.{List}
@@ -48,7 +49,8 @@ module _ (width height channels : ℕ) (e : hasSides width height channels ≡ t
   pub is-sized : (samples : List ℕ) → length samples ≡ width * channels * height → Sized width height channels samples
   is-sized samples f = record { wide = wide .0; width-most = wide .1; high = high .0; height-most = high .1; three = some .0; four = some .1; full = f }
 
-pub luma-fits : (row channels pixels : ℕ) → hasLuma row channels pixels ≡ true → (3 ≤ channels) × (channels ≤ 4) × (row ≡ pixels * channels) × (pixels ≤ longestSide)
+pub luma-fits : (row channels pixels : ℕ) → hasLuma row channels pixels ≡ true
+    → (3 ≤ channels) × (channels ≤ 4) × (row ≡ pixels * channels) × (pixels ≤ longestSide)
 luma-fits row channels pixels e =
     let b = both (hasSides pixels 1 channels) (eqb row (pixels * channels)) e in
     let s = some pixels 1 channels (b .0) in
@@ -59,7 +61,8 @@ module _ (width height channels : ℕ) (samples : List ℕ) (plane : ℕ) (e : h
   lengths = both (eqb plane planeSize) (eqb (length samples) (width * channels * height)) (both (hasSides width height channels) _ e .1)
 
   pub plane-sized : Sized width height channels samples
-  plane-sized = is-sized width height channels (both (hasSides width height channels) _ e .0) samples (eqb→eq (length samples) (width * channels * height) (subst T (sym (lengths .1)) tt))
+  plane-sized = is-sized width height channels (both (hasSides width height channels) _ e .0) samples
+      (eqb→eq (length samples) (width * channels * height) (subst T (sym (lengths .1)) tt))
 
   pub plane-values : plane ≡ planeSize
   plane-values = eqb→eq plane planeSize (subst T (sym (lengths .0)) tt)
@@ -73,5 +76,9 @@ module _ (width height channels change : ℕ) (samples : List ℕ) (e : hasChang
 
   pub change-fits : Sized width height channels samples × (256 ≤ width) × (256 ≤ height) × (change ≡ planeSize)
   change-fits =
-      let picture = no-lower .1 in
-      (plane-sized width height channels samples change picture, leb→le 256 width (subst T (sym (no-narrower .0)) tt), leb→le 256 height (subst T (sym (no-lower .0)) tt), plane-values width height channels samples change picture)
+      let picture = no-lower .1 in (
+        plane-sized width height channels samples change picture,
+        leb→le 256 width (subst T (sym (no-narrower .0)) tt),
+        leb→le 256 height (subst T (sym (no-lower .0)) tt),
+        plane-values width height channels samples change picture,
+      )

@@ -45,11 +45,13 @@ abbrev pub hasPlane : ℕ → ℕ → ℕ → ℕ → ℕ → Bool
 hasPlane width height channels samples plane = hasSides width height channels && (eqb plane planeSize && eqb samples (width * channels * height))
 
 unfoldable pub planeInto : ℕ → ℕ → ℕ → List ℕ → List Float → List Float
-planeInto width height channels samples plane = cond (hasPlane width height channels (length samples) (length plane)) (planeOf width height channels samples) plane
+planeInto width height channels samples plane =
+    cond (hasPlane width height channels (length samples) (length plane)) (planeOf width height channels samples) plane
 
 -- of a change of so many values, so many samples
 abbrev pub hasChange : ℕ → ℕ → ℕ → ℕ → ℕ → Bool
 hasChange width height channels change samples = leb 256 width && (leb 256 height && hasPlane width height channels samples change)
 
 unfoldable pub changeInto : ℕ → ℕ → ℕ → List Float → List ℕ → List ℕ
-changeInto width height channels change samples = cond (hasChange width height channels (length change) (length samples)) (changedOf width height channels change samples) samples
+changeInto width height channels change samples =
+    cond (hasChange width height channels (length change) (length samples)) (changedOf width height channels change samples) samples

@@ -60,7 +60,8 @@ pub extern "C" fn vk_dither(group: u32, numbers: &mut [f32; 16])
 #[no_mangle]
 pub extern "C" fn vk_shuffle(key: &[u8; 32], len: usize, count: usize, entries: &mut [u16]) -> usize
     ensures number { λ r. ⌜ r ≡ length (shuffleOf (now (key .entry)) len count (length (now (entries .entry)))) ⌝ }
-    ensures lent { λ _. ⌜ now (entries .exit) ≡ lentFor (length (now (entries .entry))) (shuffleOf (now (key .entry)) len count (length (now (entries .entry)))) ⌝ }
+    ensures lent { λ _. ⌜ now (entries .exit)
+        ≡ lentFor (length (now (entries .entry))) (shuffleOf (now (key .entry)) len count (length (now (entries .entry)))) ⌝ }
 {
     shuffle::shuffle(key, len, count, entries)
 }

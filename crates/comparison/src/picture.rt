@@ -1,9 +1,13 @@
 // Crates `resample_window`, `resample_four`, `resample_down` and `resample_up`.
+use resample_four::luma_from;
 use resample_window::Weight;
 use resample_window::Window;
 ghost use mathlib.Core.Path.{_≡_};
-ghost use Prim.Native.Nat.{_*_};
+ghost use Prim.Native.Nat.{_*_, _≤_};
 ghost use lib.ListN.{length};
+ghost use Rattle.seq.specs.Lists.{tab};
+ghost use Rattle.resample.specs.Samples.{lumaAt};
+ghost use Rattle.resample_four.specs.Four.{shareAt};
 ghost use Rattle.resample_window.specs.Window.{isSide, windowOf, weightOf};
 ghost use Rattle.comparison.specs.Stages.{numbersOf, partsOf, hasWeight, weightValue, hasSides, hasLuma, lumaInto, hasPlane, planeInto, hasChange, changeInto};
 
@@ -83,6 +87,25 @@ fn has_luma(row: usize, channels: usize, pixels: usize) -> bool
     }
 }
 
+// The luma of each pixel of a row, one by one.
+fn luma_row(row: &[u8], channels: usize, shares: &[f32], out: &mut [f32])
+    requires { ⌜ (now shares ≡ tab shareAt 768) × (3 ≤ channels) × (length (now row) ≡ length (now out) * channels) ⌝ }
+    ensures { λ _. ⌜ now (out .exit) ≡ tab (lumaAt channels (now (row .entry))) (length (now (out .entry))) ⌝ }
+{
+    for x in 0..out.len() {
+        out[x] = luma_from(row, x * channels, shares);
+    }
+}
+
+fn luma(row: &[u8], channels: usize, out: &mut [f32])
+    requires { ⌜ (3 ≤ channels) × (channels ≤ 4) × (length (now row) ≡ length (now out) * channels) × (length (now out) ≤ 8192) ⌝ }
+    ensures { λ _. ⌜ now (out .exit) ≡ tab (lumaAt channels (now (row .entry))) (length (now (out .entry))) ⌝ }
+{
+    let mut products = [0.0f32; 768];
+    resample_four::shares(&mut products);
+    luma_row(row, channels, &products, out);
+}
+
 // Whether the samples are a row of a picture and there is room for exactly its pixels' luma, which is then theirs.
 #[no_mangle]
 pub extern "C" fn vk_luma(row: &[u8], channels: usize, out: &mut [f32]) -> bool
@@ -91,7 +114,7 @@ pub extern "C" fn vk_luma(row: &[u8], channels: usize, out: &mut [f32]) -> bool
 {
     let done = has_luma(row.len(), channels, out.len());
     if done {
-        resample_four::luma(row, channels, out);
+        luma(row, channels, out);
     }
     done
 }

@@ -20,7 +20,8 @@ pub extern "C" fn vk_record(
 ) -> u8
     ensures answer { λ r. ⌜ r ≡ codeOf (builtAs (builtOf short (now (text .entry)) (lockFrom keyed (now (key .entry)) (now (salt .entry)))) .answer) ⌝ }
     ensures lent { λ _. ⌜ now (bytes .exit) ≡ builtAs (builtOf short (now (text .entry)) (lockFrom keyed (now (key .entry)) (now (salt .entry)))) .bytes ⌝ }
-    ensures number { λ _. ⌜ now (given .exit) ≡ givenFor (builtAs (builtOf short (now (text .entry)) (lockFrom keyed (now (key .entry)) (now (salt .entry)))) .answer) ⌝ }
+    ensures number { λ _. ⌜ now (given .exit)
+        ≡ givenFor (builtAs (builtOf short (now (text .entry)) (lockFrom keyed (now (key .entry)) (now (salt .entry)))) .answer) ⌝ }
 {
     let lock = Lock {
         given: keyed,

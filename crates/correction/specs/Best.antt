@@ -118,7 +118,9 @@ module _ (m : List Score) (v w : ℤ) where
   unfolding oddAt
   odd-is k = ap (λ (s : Score). pick (ltS s (cand wholes m v w (2 * k + 1))) 1 0) (even-is k)
 
-  pub best-is : (k : ℕ) → bestAt wholes m v w k ≡ pick (ltS (cand wholes m v w (2 * k)) (cand wholes m v w (2 * k + 1))) (cand wholes m v w (2 * k + 1)) (cand wholes m v w (2 * k))
+  pub best-is : (k : ℕ)
+      → bestAt wholes m v w k
+      ≡ pick (ltS (cand wholes m v w (2 * k)) (cand wholes m v w (2 * k + 1))) (cand wholes m v w (2 * k + 1)) (cand wholes m v w (2 * k))
   unfolding bestAt
   best-is k = ap (λ (s : Score). pick (ltS s (cand wholes m v w (2 * k + 1))) (cand wholes m v w (2 * k + 1)) s) (even-is k)
 
@@ -126,13 +128,20 @@ module _ (m : List Score) (v w : ℤ) where
   at-most : (r : ℕ) → LeS (cand wholes m v w r) (bestAt wholes m v w (r / 2))
   at-most r = rw (best-is (r / 2)) (go (r % 2) refl)
     where
-      go : (d : ℕ) → r % 2 ≡ d → LeS (cand wholes m v w r) (pick (ltS (cand wholes m v w (2 * (r / 2))) (cand wholes m v w (2 * (r / 2) + 1))) (cand wholes m v w (2 * (r / 2) + 1)) (cand wholes m v w (2 * (r / 2))))
+      go : (d : ℕ) → r % 2 ≡ d
+          → LeS (cand wholes m v w r)
+          (pick (ltS (cand wholes m v w (2 * (r / 2))) (cand wholes m v w (2 * (r / 2) + 1))) (cand wholes m v w (2 * (r / 2) + 1))
+          (cand wholes m v w (2 * (r / 2))))
       go zero e =
           let f : 2 * (r / 2) ≡ r = omega arith in
-          subst (λ (x : ℕ). LeS (cand wholes m v w x) (pick (ltS (cand wholes m v w (2 * (r / 2))) (cand wholes m v w (2 * (r / 2) + 1))) (cand wholes m v w (2 * (r / 2) + 1)) (cand wholes m v w (2 * (r / 2))))) f (pick-even (cand wholes m v w (2 * (r / 2))) (cand wholes m v w (2 * (r / 2) + 1)))
+          subst (λ (x : ℕ). LeS (cand wholes m v w x)
+          (pick (ltS (cand wholes m v w (2 * (r / 2))) (cand wholes m v w (2 * (r / 2) + 1))) (cand wholes m v w (2 * (r / 2) + 1))
+          (cand wholes m v w (2 * (r / 2))))) f (pick-even (cand wholes m v w (2 * (r / 2))) (cand wholes m v w (2 * (r / 2) + 1)))
       go (suc d) e =
           let f : 2 * (r / 2) + 1 ≡ r = omega arith in
-          subst (λ (x : ℕ). LeS (cand wholes m v w x) (pick (ltS (cand wholes m v w (2 * (r / 2))) (cand wholes m v w (2 * (r / 2) + 1))) (cand wholes m v w (2 * (r / 2) + 1)) (cand wholes m v w (2 * (r / 2))))) f (pick-odd (cand wholes m v w (2 * (r / 2))) (cand wholes m v w (2 * (r / 2) + 1)))
+          subst (λ (x : ℕ). LeS (cand wholes m v w x)
+          (pick (ltS (cand wholes m v w (2 * (r / 2))) (cand wholes m v w (2 * (r / 2) + 1))) (cand wholes m v w (2 * (r / 2) + 1))
+          (cand wholes m v w (2 * (r / 2))))) f (pick-odd (cand wholes m v w (2 * (r / 2))) (cand wholes m v w (2 * (r / 2) + 1)))
 
   -- the winner is a candidate
   is-cand : (k : ℕ) → bestAt wholes m v w k ≡ cand wholes m v w (2 * k + oddAt wholes m v w k)
@@ -173,8 +182,10 @@ upper m (b ∷ bs) (v ∷ w ∷ zs) i h (one o os) l =
     let one-step : LeS (plus (cand wholes m v w r) z) (plus (getD (nextMetrics wholes m v w) k out) z) =
     rw (step-at m v w k K) (leS-plus (cand wholes m v w r) (bestAt wholes m v w k) z (at-most m v w r)) in
     let first : LeS (plus (getD m i out) (voted negℤ (out1 r) v +ℤ (voted negℤ (out2 r) w +ℤ z))) (plus (getD (nextMetrics wholes m v w) k out) z) =
-    subst (λ (x : ℕ). LeS (plus (getD m x out) (voted negℤ (out1 r) v +ℤ (voted negℤ (out2 r) w +ℤ z))) (plus (getD (nextMetrics wholes m v w) k out) z)) I (rw (cand-then m v w r z) at one-step) in
-    leS-trans (plus (getD m i out) (voted negℤ (out1 r) v +ℤ (voted negℤ (out2 r) w +ℤ z))) (plus (getD (nextMetrics wholes m v w) k out) z) (getD (metricsAfter wholes (nextMetrics wholes m v w) zs) (run k bs) out) first (upper (nextMetrics wholes m v w) bs zs k K os (omega arith))
+    subst (λ (x : ℕ). LeS (plus (getD m x out) (voted negℤ (out1 r) v +ℤ (voted negℤ (out2 r) w +ℤ z))) (plus (getD (nextMetrics wholes m v w) k out) z)) I
+    (rw (cand-then m v w r z) at one-step) in
+    leS-trans (plus (getD m i out) (voted negℤ (out1 r) v +ℤ (voted negℤ (out2 r) w +ℤ z))) (plus (getD (nextMetrics wholes m v w) k out) z)
+    (getD (metricsAfter wholes (nextMetrics wholes m v w) zs) (run k bs) out) first (upper (nextMetrics wholes m v w) bs zs k K os (omega arith))
 
 -- ---- the path traced back leads to the state, and its score makes the metric
 
@@ -247,7 +258,8 @@ best-path zs n l =
     let bs = path wholes m zs 0 in
     let J : j < 64 = origin-lt wholes m zs 0 (omega arith) in
     let low = lower m zs n 0 l (omega arith) in
-    let got = reached-score (strength wholes zs) (score (code 0 (replicate n 0)) zs) (from-start zs (replicate n 0) (zeros-bits n) (l ∙ ap (λ (x : ℕ). 2 * x) (sym (length-replicate n 0))) (zeros-run n)) in
+    let got = reached-score (strength wholes zs) (score (code 0 (replicate n 0)) zs)
+    (from-start zs (replicate n 0) (zeros-bits n) (l ∙ ap (λ (x : ℕ). 2 * x) (sym (length-replicate n 0))) (zeros-run n)) in
     let both = after-start zs j (score (code j bs) zs) (got .0) J (sym low ∙ got .1) in
     let is : strength wholes zs ≡ at (score (code 0 bs) zs) = got .1 ∙ ap at (sym (both .1)) ∙ ap (λ (i : ℕ). at (score (code i bs) zs)) (both .0) in
     record {

@@ -40,13 +40,15 @@ module _ (l back : ℕ → ℕ) (n : ℕ) (u : Undo l back n) where
       → placed p cs (through l n (pos 0) zs) n ≡ sum (pos 0) (λ a b. a +ℤ b) (λ b. voted negℤ (bit b) (getD zs b (pos 0))) n
   unfolding through
   blocks-score p cs bit zs h =
-      sum-same (λ a b. a +ℤ b) (pos 0) (λ j. voted negℤ (getD cs (j % p) 0) (getD (through l n (pos 0) zs) j (pos 0))) (λ j. voted negℤ (bit (l j)) (getD zs (l j) (pos 0))) n
+      sum-same (λ a b. a +ℤ b) (pos 0) (λ j. voted negℤ (getD cs (j % p) 0) (getD (through l n (pos 0) zs) j (pos 0)))
+      (λ j. voted negℤ (bit (l j)) (getD zs (l j) (pos 0))) n
       (λ j k. ap₂ (λ (x : ℕ) (y : ℤ). voted negℤ x y) (sym (h j k)) (getD-tab (λ j. getD zs (l j) (pos 0)) n j (pos 0) k))
       ∙ rearrange (pos 0) (λ a b. a +ℤ b) +ℤ-idl +ℤ-idr interleave l back n (u .lo) (u .bo) (u .there) (u .again) (λ b. voted negℤ (bit b) (getD zs b (pos 0)))
 
   -- votes of blocks, each the sure vote of the coded bit that it carries after its fate, give the record back
   module _ (k : ℕ → ℕ) (r : ℕ) (some : 0 < sends k r) (φ : ℕ → ℕ → ℕ) (least : ℕ) (K : (i : ℕ) → k i < 2) (P : Potential k φ least) where
-    pub corrects-blocks : (xs : List ℕ) (ts : List Fate) (votes : List Float) → length xs ≡ r → Bytes xs → sends k r ≤ n → n ≤ 2 ^ 24 → zeroedCount ts + 2 * reversedCount ts < least
+    pub corrects-blocks : (xs : List ℕ) (ts : List Fate) (votes : List Float) → length xs ≡ r → Bytes xs → sends k r ≤ n → n ≤ 2 ^ 24
+        → zeroedCount ts + 2 * reversedCount ts < least
         → ((j : ℕ) → j < n → getD votes (l j) nan ≡ votedF (getD (sent k 0 (encodeOf xs)) (j % sends k r) 0) (getD ts (l j) kept))
         → readBy k r n (through l n nan votes) ≡ xs
     unfolding through laidVotes
@@ -55,9 +57,11 @@ module _ (l back : ℕ → ℕ) (n : ℕ) (u : Undo l back n) where
         let cs = sent k 0 (encodeOf xs) in
         let ts′ = tab (λ j. getD ts (l j) kept) n in
         let few : upto (λ j. cost (getD ts′ j kept)) n ≤ zeroedCount ts + 2 * reversedCount ts =
-        le-trans (le-of-eq (sum-same (λ a b. a + b) 0 (λ j. cost (getD ts′ j kept)) (λ j. cost (getD ts (l j) kept)) n (λ j q. ap cost (getD-tab (λ j. getD ts (l j) kept) n j kept q)) ∙ upto-blocks (λ b. cost (getD ts b kept)))) (total-cost ts n) in
+        le-trans (le-of-eq (sum-same (λ a b. a + b) 0 (λ j. cost (getD ts′ j kept)) (λ j. cost (getD ts (l j) kept)) n
+        (λ j q. ap cost (getD-tab (λ j. getD ts (l j) kept) n j kept q)) ∙ upto-blocks (λ b. cost (getD ts b kept)))) (total-cost ts n) in
         let same : tab (λ j. getD votes (l j) nan) n ≡ tab (λ j. votedF (getD cs (j % p) 0) (getD ts′ j kept)) n =
-        tab-same (λ j. getD votes (l j) nan) (λ j. votedF (getD cs (j % p) 0) (getD ts′ j kept)) n (λ j q. h j q ∙ ap (votedF (getD cs (j % p) 0)) (sym (getD-tab (λ j. getD ts (l j) kept) n j kept q))) in
+        tab-same (λ j. getD votes (l j) nan) (λ j. votedF (getD cs (j % p) 0) (getD ts′ j kept)) n
+        (λ j q. h j q ∙ ap (votedF (getD cs (j % p) 0)) (sym (getD-tab (λ j. getD ts (l j) kept) n j kept q))) in
         ap (readBy k r n) same ∙ corrects-by k r n some φ least K P xs ts′ e o fits small (omega arith)
 
 -- ---- scores over the blocks
@@ -75,7 +79,8 @@ unfolding tab
 votes-tab′ c f g zero h = Votes.none
 votes-tab′ c f g (suc n) h = votes-snoc (votes-tab′ c f g n (λ j k. h j (omega arith))) (h n (omega arith))
 
-through-small : (l : ℕ → ℕ) (n : ℕ) (zs : List ℤ) (b : ℕ) → ((j : ℕ) → natAbs (getD zs j (pos 0)) ≤ b) → (j : ℕ) → natAbs (getD (through l n (pos 0) zs) j (pos 0)) ≤ b
+through-small : (l : ℕ → ℕ) (n : ℕ) (zs : List ℤ) (b : ℕ) → ((j : ℕ) → natAbs (getD zs j (pos 0)) ≤ b) → (j : ℕ)
+    → natAbs (getD (through l n (pos 0) zs) j (pos 0)) ≤ b
 unfolding through
 through-small l n zs b h j =
     let f : ℕ → ℤ = λ j. getD zs (l j) (pos 0) in
@@ -84,7 +89,8 @@ through-small l n zs b h j =
       | inr q ↦ subst (λ (x : ℤ). natAbs x ≤ b) (sym (List·getD-eq-default (tab f n) (pos 0) (subst (λ (x : ℕ). x ≤ j) (sym (length-tab f n)) q))) (omega arith)
     ]
 
-votes-through : (c : ℕ) (l : ℕ → ℕ) (n : ℕ) (us : List Float) (zs : List ℤ) → ((j : ℕ) → j < n → l j < length zs) → Votes c us zs → Votes c (through l n nan us) (through l n (pos 0) zs)
+votes-through : (c : ℕ) (l : ℕ → ℕ) (n : ℕ) (us : List Float) (zs : List ℤ) → ((j : ℕ) → j < n → l j < length zs) → Votes c us zs
+    → Votes c (through l n nan us) (through l n (pos 0) zs)
 unfolding through
 votes-through c l n us zs h v = votes-tab′ c (λ j. getD us (l j) nan) (λ j. getD zs (l j) (pos 0)) n (λ j k. votes-at (l j) v (h j k))
 
@@ -92,9 +98,11 @@ module _ (l back : ℕ → ℕ) (n : ℕ) (u : Undo l back n) (k : ℕ → ℕ) 
   score-blocks : (zs : List ℤ) (xs : List ℕ) → scoreBy k r n (through l n (pos 0) zs) xs ≡ blockScore k back r n zs xs
   unfolding blockScore
   score-blocks zs xs =
-      blocks-score l back n u (sends k r) (sent k 0 (encodeOf xs)) (bitAt back (sends k r) (sent k 0 (encodeOf xs))) zs (λ j h. ap (λ (x : ℕ). getD (sent k 0 (encodeOf xs)) (x % sends k r) 0) (u .there j h))
+      blocks-score l back n u (sends k r) (sent k 0 (encodeOf xs)) (bitAt back (sends k r) (sent k 0 (encodeOf xs))) zs
+      (λ j h. ap (λ (x : ℕ). getD (sent k 0 (encodeOf xs)) (x % sends k r) 0) (u .there j h))
 
-  module _ (m b : ℕ) (votes : List Float) (zs : List ℤ) (L : m ≤ low binary32) (B : b * n ≤ 2 ^ prec binary32) (N : length votes ≡ n) (v : Votes (2 ^ m) votes zs)
+  module _ (m b : ℕ) (votes : List Float) (zs : List ℤ) (L : m ≤ low binary32) (B : b * n ≤ 2 ^ prec binary32) (N : length votes ≡ n)
+      (v : Votes (2 ^ m) votes zs)
       (h : (j : ℕ) → natAbs (getD zs j (pos 0)) ≤ b) where
     us : List Float
     us = through l n nan votes

@@ -58,7 +58,11 @@ kept-add : (l a : ℕ) {x y : Float} {s : Score} (z : ℤ) (n : ℕ) → l ≤ l
 kept-add l a {x} {y} {s} z n L h k i =
     let b = natAbs z in
     let w = bounded-plus s (voted negℤ n z) a b (k .within) (voted-size n b z (le-refl b)) in
-    record { means = scored-add binary32 l x (voted neg n y) s (voted negℤ n z) L (k .means) (voted-is n i) (bounded-mono (plus s (voted negℤ n z)) (a + b) (2 ^ prec binary32) h w); within = w }
+    record {
+      means = scored-add binary32 l x (voted neg n y) s (voted negℤ n z) L (k .means) (voted-is n i)
+          (bounded-mono (plus s (voted negℤ n z)) (a + b) (2 ^ prec binary32) h w);
+      within = w;
+    }
 
 module _ (l a : ℕ) (fm : List Float) (sm : List Score) (x y : Float) (z w : ℤ) (L : l ≤ low binary32) (A : a + natAbs z + natAbs w ≤ 2 ^ prec binary32)
     (M : Metrics (2 ^ l) a fm sm) (X : Is (2 ^ l) x z) (Y : Is (2 ^ l) y w) where
@@ -78,7 +82,8 @@ module _ (l a : ℕ) (fm : List Float) (sm : List Score) (x y : Float) (z w : �
       go false = record { means = refl; within = tt }
 
   same-less : (k : ℕ) → lt (evenAt floats fm x y k) (cand floats fm x y (2 * k + 1)) ≡ ltS (evenAt wholes sm z w k) (cand wholes sm z w (2 * k + 1))
-  same-less k = scored-lt (2 ^ l) (evenAt floats fm x y k) (cand floats fm x y (2 * k + 1)) (evenAt wholes sm z w k) (cand wholes sm z w (2 * k + 1)) (pow-pos l) (kept-even k .means) (kept-cand (2 * k + 1) .means)
+  same-less k = scored-lt (2 ^ l) (evenAt floats fm x y k) (cand floats fm x y (2 * k + 1)) (evenAt wholes sm z w k) (cand wholes sm z w (2 * k + 1))
+      (pow-pos l) (kept-even k .means) (kept-cand (2 * k + 1) .means)
 
   pub same-odd : (k : ℕ) → oddAt floats fm x y k ≡ oddAt wholes sm z w k
   unfolding oddAt
@@ -88,7 +93,8 @@ module _ (l a : ℕ) (fm : List Float) (sm : List Score) (x y : Float) (z w : �
   unfolding bestAt
   kept-best k = rw (same-less k) (go (ltS (evenAt wholes sm z w k) (cand wholes sm z w (2 * k + 1))))
     where
-      go : (t : Bool) → KeptMetric (2 ^ l) (a + natAbs z + natAbs w) (pick t (cand floats fm x y (2 * k + 1)) (evenAt floats fm x y k)) (pick t (cand wholes sm z w (2 * k + 1)) (evenAt wholes sm z w k))
+      go : (t : Bool) → KeptMetric (2 ^ l) (a + natAbs z + natAbs w) (pick t (cand floats fm x y (2 * k + 1)) (evenAt floats fm x y k))
+          (pick t (cand wholes sm z w (2 * k + 1)) (evenAt wholes sm z w k))
       go true = kept-cand (2 * k + 1)
       go false = kept-even k
 

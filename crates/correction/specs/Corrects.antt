@@ -68,9 +68,11 @@ unfolding hamming sumTo
 apart-upto [] [] l = refl
 apart-upto [] (d ∷ ds) l = absurd (omega arith)
 apart-upto (c ∷ cs) [] l = absurd (omega arith)
-apart-upto (c ∷ cs) (d ∷ ds) l = ap (λ (x : ℕ). unlike c d + x) (apart-upto cs ds (omega arith)) ∙ sym (upto-front (λ j. unlike (getD (c ∷ cs) j 0) (getD (d ∷ ds) j 0)) (length cs))
+apart-upto (c ∷ cs) (d ∷ ds) l =
+    ap (λ (x : ℕ). unlike c d + x) (apart-upto cs ds (omega arith)) ∙ sym (upto-front (λ j. unlike (getD (c ∷ cs) j 0) (getD (d ∷ ds) j 0)) (length cs))
 
-pub apart-places : (p n : ℕ) (cs ds : List ℕ) → p ≤ n → length cs ≡ p → length ds ≡ p → hamming cs ds ≤ upto (λ j. unlike (getD cs (j % p) 0) (getD ds (j % p) 0)) n
+pub apart-places : (p n : ℕ) (cs ds : List ℕ) → p ≤ n → length cs ≡ p → length ds ≡ p
+    → hamming cs ds ≤ upto (λ j. unlike (getD cs (j % p) 0) (getD ds (j % p) 0)) n
 apart-places p n cs ds h l m =
     let f : ℕ → ℕ = λ j. unlike (getD cs j 0) (getD ds j 0) in
     let g : ℕ → ℕ = λ j. unlike (getD cs (j % p) 0) (getD ds (j % p) 0) in
@@ -145,7 +147,8 @@ interleave a b c d =
     ∙ sym (+ℤ-assoc a c (b +ℤ d))
 
 ≤ℤ-both : {a b c d : ℤ} → a ≤ℤ b → c ≤ℤ d → (a +ℤ c) ≤ℤ (b +ℤ d)
-≤ℤ-both {a} {b} {c} {d} h k = ≤ℤ-trans (≤ℤ-add c h) (subst (λ (x : ℤ). x ≤ℤ (b +ℤ d)) (+ℤ-comm c b) (subst (λ (x : ℤ). (c +ℤ b) ≤ℤ x) (+ℤ-comm d b) (≤ℤ-add b k)))
+≤ℤ-both {a} {b} {c} {d} h k =
+    ≤ℤ-trans (≤ℤ-add c h) (subst (λ (x : ℤ). x ≤ℤ (b +ℤ d)) (+ℤ-comm c b) (subst (λ (x : ℤ). (c +ℤ b) ≤ℤ x) (+ℤ-comm d b) (≤ℤ-add b k)))
 
 strip : (a x : ℤ) → a +ℤ x +ℤ negℤ a ≡ x
 strip a x = ap (λ (y : ℤ). y +ℤ negℤ a) (+ℤ-comm a x) ∙ +ℤ-assoc x a (negℤ a) ∙ ap (λ (y : ℤ). x +ℤ y) (+ℤ-invr a) ∙ +ℤ-idr x
@@ -191,7 +194,8 @@ module _ (p N : ℕ) (cs : List ℕ) (ts : List Fate) where
         let a = placed p ds zs n in
         let both : (a +ℤ pos (2 * D n) +ℤ (voted negℤ d (votedZ c t) +ℤ pos (2 * unlike c d))) ≤ℤ (pos (n + C n) +ℤ pos (1 + cost t)) =
         ≤ℤ-both (otherSum n (omega arith)) (other c d t (bits-at cs (n % p) B) (bits-at ds (n % p) E)) in
-        let left : a +ℤ voted negℤ d (getD zs n (pos 0)) +ℤ pos (2 * (D n + unlike c d)) ≡ a +ℤ pos (2 * D n) +ℤ (voted negℤ d (votedZ c t) +ℤ pos (2 * unlike c d)) =
+        let left : a +ℤ voted negℤ d (getD zs n (pos 0)) +ℤ pos (2 * (D n + unlike c d))
+        ≡ a +ℤ pos (2 * D n) +ℤ (voted negℤ d (votedZ c t) +ℤ pos (2 * unlike c d)) =
         ap (λ (x : ℤ). a +ℤ voted negℤ d x +ℤ pos (2 * (D n + unlike c d))) (vote-at n h)
         ∙ ap (λ (x : ℕ). a +ℤ voted negℤ d (votedZ c t) +ℤ pos x) (let e : 2 * (D n + unlike c d) ≡ 2 * D n + 2 * unlike c d = omega arith in e)
         ∙ interleave a (voted negℤ d (votedZ c t)) (pos (2 * D n)) (pos (2 * unlike c d)) in
@@ -233,7 +237,8 @@ laid-sizes p N cs ts j =
 laid-votes : (p n : ℕ) (cs : List ℕ) (ts : List Fate) → Votes 1 (laidVotes p n cs ts) (laidZ p n cs ts)
 unfolding laidVotes laidZ
 laid-votes p n cs ts =
-    votes-tab 1 (λ j. votedF (getD cs (j % p) 0) (getD ts j kept)) (λ j. votedZ (getD cs (j % p) 0) (getD ts j kept)) n (λ j. voted-same (getD cs (j % p) 0) (getD ts j kept))
+    votes-tab 1 (λ j. votedF (getD cs (j % p) 0) (getD ts j kept)) (λ j. votedZ (getD cs (j % p) 0) (getD ts j kept)) n
+    (λ j. voted-same (getD cs (j % p) 0) (getD ts j kept))
 
 laid-length : (p n : ℕ) (cs : List ℕ) (ts : List Fate) → length (laidZ p n cs ts) ≡ n
 unfolding laidZ
@@ -241,7 +246,8 @@ laid-length p n cs ts = length-tab (λ j. votedZ (getD cs (j % p) 0) (getD ts j 
 
 -- bits bs that lead from state 0 to state 0, sent by a pattern, laid over n places and damaged, are decoded
 module _ (k : ℕ → ℕ) (φ : ℕ → ℕ → ℕ) (least : ℕ) (K : (i : ℕ) → k i < 2) (P : Potential k φ least) where
-  pub undone-by : (bs : List ℕ) (p n : ℕ) (ts : List Fate) → Bits bs → run 0 bs ≡ 0 → length (sent k 0 (code 0 bs)) ≡ p → 0 < p → p ≤ n → n ≤ 2 ^ 24 → upto (λ j. cost (getD ts j kept)) n < least
+  pub undone-by : (bs : List ℕ) (p n : ℕ) (ts : List Fate) → Bits bs → run 0 bs ≡ 0 → length (sent k 0 (code 0 bs)) ≡ p → 0 < p → p ≤ n → n ≤ 2 ^ 24
+      → upto (λ j. cost (getD ts j kept)) n < least
       → decoded floats (fill (fin false 0 (pos 0)) k 0 (2 * length bs) (gatherF p n (laidVotes p n (sent k 0 (code 0 bs)) ts))) ≡ bs
   unfolding C D zs
   undone-by bs p n ts b e L some fits small ok =
@@ -253,17 +259,23 @@ module _ (k : ℕ → ℕ) (φ : ℕ → ℕ → ℕ) (least : ℕ) (K : (i : �
       let gz = gatherZ p n ws in
       let m = 2 * length bs in
       let U = gather-votes 0 p n 1 us ws (lit≤ tt) some (le-of-eq (sym (laid-length p n cs ts))) sm (laid-sizes p n cs ts) (laid-votes p n cs ts) in
-      let S : sizes (fill (pos 0) k 0 m gz) ≤ 2 ^ prec binary32 = le-trans (fill-sizes k 0 m gz) (le-trans (gather-sizes p n 1 ws some (laid-sizes p n cs ts)) sm) in
-      let best = decoded-best 0 (length bs) (fill (fin false 0 (pos 0)) k 0 m gs) (fill (pos 0) k 0 m gz) (lit≤ tt) S (fill-length (fin false 0 (pos 0)) k 0 m gs) (fill-votes 1 k 0 m U) in
+      let S : sizes (fill (pos 0) k 0 m gz) ≤ 2 ^ prec binary32 =
+      le-trans (fill-sizes k 0 m gz) (le-trans (gather-sizes p n 1 ws some (laid-sizes p n cs ts)) sm) in
+      let best = decoded-best 0 (length bs) (fill (fin false 0 (pos 0)) k 0 m gs) (fill (pos 0) k 0 m gz) (lit≤ tt) S
+      (fill-length (fin false 0 (pos 0)) k 0 m gs) (fill-votes 1 k 0 m U) in
       let hat = decoded floats (fill (fin false 0 (pos 0)) k 0 m gs) in
       let ds = sent k 0 (code 0 hat) in
       let H : length (code 0 hat) ≡ m = code-length 0 hat ∙ ap (λ (x : ℕ). 2 * x) (best .long) in
       let Q : length ds ≡ p = sent-length k 0 (code 0 hat) (code 0 bs) (H ∙ sym (code-length 0 bs)) ∙ L in
-      let one-score : (xs : List ℕ) → length (code 0 xs) ≡ m → length (sent k 0 (code 0 xs)) ≡ p → score (code 0 xs) (fill (pos 0) k 0 m gz) ≡ placed p (sent k 0 (code 0 xs)) ws n =
-      λ xs h q. ap (λ (x : ℕ). score (code 0 xs) (fill (pos 0) k 0 x gz)) (sym h) ∙ fill-score k 0 (code 0 xs) gz ∙ regroup p n (sent k 0 (code 0 xs)) ws some q in
+      let one-score : (xs : List ℕ) → length (code 0 xs) ≡ m → length (sent k 0 (code 0 xs)) ≡ p
+      → score (code 0 xs) (fill (pos 0) k 0 m gz) ≡ placed p (sent k 0 (code 0 xs)) ws n =
+      λ xs h q. ap (λ (x : ℕ). score (code 0 xs) (fill (pos 0) k 0 x gz)) (sym h) ∙ fill-score k 0 (code 0 xs) gz
+      ∙ regroup p n (sent k 0 (code 0 xs)) ws some q in
       let most : (placed p cs ws n) ≤ℤ (placed p ds ws n) =
-      subst (λ (x : ℤ). x ≤ℤ (placed p ds ws n)) (one-score bs (code-length 0 bs) L) (subst (λ (x : ℤ). (score (code 0 bs) (fill (pos 0) k 0 m gz)) ≤ℤ x) (one-score hat H Q) (best .most bs b refl e)) in
-      let few : upto (λ j. unlike (getD cs (j % p) 0) (getD ds (j % p) 0)) n ≤ upto (λ j. cost (getD ts j kept)) n = near p n cs ts ds (sent-bits k 0 (code-bits 0 bs)) (sent-bits k 0 (code-bits 0 hat)) most in
+      subst (λ (x : ℤ). x ≤ℤ (placed p ds ws n)) (one-score bs (code-length 0 bs) L)
+      (subst (λ (x : ℤ). (score (code 0 bs) (fill (pos 0) k 0 m gz)) ≤ℤ x) (one-score hat H Q) (best .most bs b refl e)) in
+      let few : upto (λ j. unlike (getD cs (j % p) 0) (getD ds (j % p) 0)) n ≤ upto (λ j. cost (getD ts j kept)) n =
+      near p n cs ts ds (sent-bits k 0 (code-bits 0 bs)) (sent-bits k 0 (code-bits 0 hat)) most in
       let far = apart-places p n cs ds fits L Q in
       let cnt = sent-apart k 0 (code 0 bs) (code 0 hat) K (code-length 0 bs ∙ sym H) in
       elim (split k φ least P 0 0 bs hat refl (lit< tt) b (best .bits) (sym (best .long)) (e ∙ sym (best .home))) [

@@ -88,27 +88,35 @@ module _ (k : ℕ → ℕ) (φ : ℕ → ℕ → ℕ) (least : ℕ) (P : Potenti
       let one-step : φ i x ≤ stepWeight k i f x + φ (suc (suc i)) (nextState f x) = P .step i f x I (xor-two b d B D) (xor-64 s t S T) in
       let rest : φ (suc (suc i)) (bitXor (nextState b s) (nextState d t)) ≤ hammingBy k (suc (suc i)) (code (nextState b s) bs) (code (nextState d t) ds) =
       meet (suc (suc i)) (nextState b s) (nextState d t) bs ds (omega arith) (next-64 b s B S) (next-64 d t D T) n m (omega arith) e in
-      let a : φ (suc (suc i)) (bitXor (nextState b s) (nextState d t)) ≡ φ (suc (suc i)) (nextState f x) = ap (λ (y : ℕ). φ (suc (suc i)) y) (next-xor b d s t S T) in
+      let a : φ (suc (suc i)) (bitXor (nextState b s) (nextState d t)) ≡ φ (suc (suc i)) (nextState f x) =
+      ap (λ (y : ℕ). φ (suc (suc i)) y) (next-xor b d s t S T) in
       let u : k i * unlike (out1 (register b s)) (out1 (register d t)) ≡ k i * out1 (register f x) = ap (λ (y : ℕ). k i * y) (unlike-out 0o171 b d s t S T) in
-      let v : k (suc i) * unlike (out2 (register b s)) (out2 (register d t)) ≡ k (suc i) * out2 (register f x) = ap (λ (y : ℕ). k (suc i) * y) (unlike-out 0o133 b d s t S T) in
+      let v : k (suc i) * unlike (out2 (register b s)) (out2 (register d t)) ≡ k (suc i) * out2 (register f x) =
+      ap (λ (y : ℕ). k (suc i) * y) (unlike-out 0o133 b d s t S T) in
       chain one-step rest a u v
 
   -- two ways from one state to one state are the same, or at least so far apart
-  pub split : (i s : ℕ) (bs ds : List ℕ) → i % 2 ≡ 0 → s < 64 → Bits bs → Bits ds → length bs ≡ length ds → run s bs ≡ run s ds → (bs ≡ ds) ⊎ (least ≤ hammingBy k i (code s bs) (code s ds))
+  pub split : (i s : ℕ) (bs ds : List ℕ) → i % 2 ≡ 0 → s < 64 → Bits bs → Bits ds → length bs ≡ length ds → run s bs ≡ run s ds
+      → (bs ≡ ds) ⊎ (least ≤ hammingBy k i (code s bs) (code s ds))
   unfolding hammingBy code run
   split i s [] [] I S n m l e = inl refl
   split i s [] (d ∷ ds) I S n m l e = absurd (omega arith)
   split i s (b ∷ bs) [] I S n m l e = absurd (omega arith)
   split i s (b ∷ bs) (d ∷ ds) I S (one B n) (one D m) l e =
-      go (eqb b d) refl (λ (E : run (nextState b s) bs ≡ run (nextState b s) ds). split (suc (suc i)) (nextState b s) bs ds (omega arith) (next-64 b s B S) n m (omega arith) E)
+      go (eqb b d) refl (λ (E : run (nextState b s) bs ≡ run (nextState b s) ds). split (suc (suc i)) (nextState b s) bs ds (omega arith)
+      (next-64 b s B S) n m (omega arith) E)
     where
-      go : (q : Bool) → eqb b d ≡ q → (run (nextState b s) bs ≡ run (nextState b s) ds → (bs ≡ ds) ⊎ (least ≤ hammingBy k (suc (suc i)) (code (nextState b s) bs) (code (nextState b s) ds))) → (b ∷ bs ≡ d ∷ ds) ⊎ (least ≤ hammingBy k i (code s (b ∷ bs)) (code s (d ∷ ds)))
+      go : (q : Bool) → eqb b d ≡ q
+          → (run (nextState b s) bs ≡ run (nextState b s) ds
+          → (bs ≡ ds) ⊎ (least ≤ hammingBy k (suc (suc i)) (code (nextState b s) bs) (code (nextState b s) ds)))
+          → (b ∷ bs ≡ d ∷ ds) ⊎ (least ≤ hammingBy k i (code s (b ∷ bs)) (code s (d ∷ ds)))
       go true q rec =
           let E : d ≡ b = sym (eqb-true b d q) in
           elim (rec (e ∙ ap (λ (y : ℕ). run (nextState y s) ds) E)) [
             | inl f ↦ inl (ap₂ (λ (x : ℕ) (xs : List ℕ). x ∷ xs) (sym E) f)
             | inr h ↦
-                let g : least ≤ hammingBy k (suc (suc i)) (code (nextState b s) bs) (code (nextState d s) ds) = subst (λ (y : ℕ). least ≤ hammingBy k (suc (suc i)) (code (nextState b s) bs) (code (nextState y s) ds)) (sym E) h in
+                let g : least ≤ hammingBy k (suc (suc i)) (code (nextState b s) bs) (code (nextState d s) ds) =
+                subst (λ (y : ℕ). least ≤ hammingBy k (suc (suc i)) (code (nextState b s) bs) (code (nextState y s) ds)) (sym E) h in
                 inr (later (k i * unlike (out1 (register b s)) (out1 (register d s))) (k (suc i) * unlike (out2 (register b s)) (out2 (register d s))) g)
           ]
       go false q rec =
@@ -117,9 +125,12 @@ module _ (k : ℕ → ℕ) (φ : ℕ → ℕ → ℕ) (least : ℕ) (P : Potenti
           let F : f ≡ 1 = apart-bits b d B D (eqb-false b d q) in
           let rest : φ (suc (suc i)) (bitXor (nextState b s) (nextState d s)) ≤ hammingBy k (suc (suc i)) (code (nextState b s) bs) (code (nextState d s) ds) =
           meet (suc (suc i)) (nextState b s) (nextState d s) bs ds (omega arith) (next-64 b s B S) (next-64 d s D S) n m (omega arith) e in
-          let a : φ (suc (suc i)) (bitXor (nextState b s) (nextState d s)) ≡ φ (suc (suc i)) 32 = ap (λ (y : ℕ). φ (suc (suc i)) y) (next-xor b d s s S S ∙ ap₂ (λ (y z : ℕ). nextState y z) F (xor-self s)) in
-          let u : k i * unlike (out1 (register b s)) (out1 (register d s)) ≡ k i * out1 64 = ap (λ (y : ℕ). k i * y) (unlike-out 0o171 b d s s S S ∙ ap₂ (λ (y z : ℕ). out1 (register y z)) F (xor-self s)) in
-          let v : k (suc i) * unlike (out2 (register b s)) (out2 (register d s)) ≡ k (suc i) * out2 64 = ap (λ (y : ℕ). k (suc i) * y) (unlike-out 0o133 b d s s S S ∙ ap₂ (λ (y z : ℕ). out2 (register y z)) F (xor-self s)) in
+          let a : φ (suc (suc i)) (bitXor (nextState b s) (nextState d s)) ≡ φ (suc (suc i)) 32 =
+          ap (λ (y : ℕ). φ (suc (suc i)) y) (next-xor b d s s S S ∙ ap₂ (λ (y z : ℕ). nextState y z) F (xor-self s)) in
+          let u : k i * unlike (out1 (register b s)) (out1 (register d s)) ≡ k i * out1 64 =
+          ap (λ (y : ℕ). k i * y) (unlike-out 0o171 b d s s S S ∙ ap₂ (λ (y z : ℕ). out1 (register y z)) F (xor-self s)) in
+          let v : k (suc i) * unlike (out2 (register b s)) (out2 (register d s)) ≡ k (suc i) * out2 64 =
+          ap (λ (y : ℕ). k (suc i) * y) (unlike-out 0o133 b d s s S S ∙ ap₂ (λ (y z : ℕ). out2 (register y z)) F (xor-self s)) in
           inr (chain (P .leave i I) rest a u v)
 
 -- ---- every coded bit counts: ten. By the state, the least weight on a way home

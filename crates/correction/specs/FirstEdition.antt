@@ -68,7 +68,8 @@ metric-is votes = strength-all recordSize blockCount (through blockOf blockCount
 score-is : (zs : List ℤ) (xs : List ℕ) → blockScore all placeOf recordSize blockCount zs xs ≡ scoreOf zs xs
 unfolding blockScore scoreOf
 score-is zs xs =
-    sum-same (λ a b. a +ℤ b) (pos 0) (λ b. voted negℤ (getD (sent all 0 (encodeOf xs)) (placeOf b % sends all recordSize) 0) (getD zs b (pos 0))) (λ b. voted negℤ (bitIn xs b) (getD zs b (pos 0))) blockCount
+    sum-same (λ a b. a +ℤ b) (pos 0) (λ b. voted negℤ (getD (sent all 0 (encodeOf xs)) (placeOf b % sends all recordSize) 0) (getD zs b (pos 0)))
+    (λ b. voted negℤ (bitIn xs b) (getD zs b (pos 0))) blockCount
     (λ b h. ap (λ (c : ℕ). voted negℤ c (getD zs b (pos 0))) (carried xs (placeOf b) ∙ sym (bit-at xs b h)))
 
 some : 0 < sends all recordSize
@@ -79,8 +80,10 @@ some = rw (sends-all recordSize) (lit< tt)
 words-blocks : (xs ys : List ℕ) → IsRecord xs → IsRecord ys → hamming (encodeOf xs) (encodeOf ys) ≤ blocksApart xs ys
 unfolding blocksApart
 words-blocks xs ys x y =
-    le-trans (apart-places codedBits blockCount (encodeOf xs) (encodeOf ys) (lit≤ tt) (encode-length recordSize xs (x .long)) (encode-length recordSize ys (y .long)))
-    (le-of-eq (sum-same (λ a b. a + b) 0 (λ j. unlike (getD (encodeOf xs) (j % codedBits) 0) (getD (encodeOf ys) (j % codedBits) 0)) (λ j. unlike (bitIn xs (blockOf j)) (bitIn ys (blockOf j))) blockCount
+    le-trans (apart-places codedBits blockCount (encodeOf xs) (encodeOf ys) (lit≤ tt) (encode-length recordSize xs (x .long))
+    (encode-length recordSize ys (y .long)))
+    (le-of-eq (sum-same (λ a b. a + b) 0 (λ j. unlike (getD (encodeOf xs) (j % codedBits) 0) (getD (encodeOf ys) (j % codedBits) 0))
+    (λ j. unlike (bitIn xs (blockOf j)) (bitIn ys (blockOf j))) blockCount
     (λ j h. sym (ap₂ unlike (bit-of-place xs j h) (bit-of-place ys j h)))
     ∙ upto-blocks blockOf placeOf blockCount layout-undo (λ b. unlike (bitIn xs b) (bitIn ys b))))
 
@@ -89,13 +92,15 @@ words-blocks xs ys x y =
 pub best-record : (votes : List Float) (zs : List ℤ) → WholeVotes votes zs → (ys : List ℕ) → IsRecord ys → scoreOf zs ys ≤ℤ scoreOf zs (decodedFrom votes)
 best-record votes zs w ys y =
     subst (λ (s : ℤ). s ≤ℤ scoreOf zs (decodedFrom votes)) (score-is zs ys)
-    (subst (λ (s : ℤ). blockScore all placeOf recordSize blockCount zs ys ≤ℤ s) (score-is zs (readBy all recordSize blockCount (through blockOf blockCount nan votes)) ∙ ap (scoreOf zs) (read-is votes))
+    (subst (λ (s : ℤ). blockScore all placeOf recordSize blockCount zs ys ≤ℤ s)
+    (score-is zs (readBy all recordSize blockCount (through blockOf blockCount nan votes)) ∙ ap (scoreOf zs) (read-is votes))
     (top-blocks blockOf placeOf blockCount layout-undo all recordSize some 10 1024 votes zs (lit≤ tt) (lit≤ tt) (w .many) (w .means) (w .small) ys (y .long)))
 
 pub metric-score : (votes : List Float) (zs : List ℤ) → WholeVotes votes zs → Is 1024 (metricFrom votes) (scoreOf zs (decodedFrom votes))
 metric-score votes zs w =
     subst (λ (f : Float). Is 1024 f (scoreOf zs (decodedFrom votes))) (metric-is votes)
-    (subst (λ (s : ℤ). Is 1024 (strengthBy all recordSize blockCount (through blockOf blockCount nan votes)) s) (score-is zs (readBy all recordSize blockCount (through blockOf blockCount nan votes)) ∙ ap (scoreOf zs) (read-is votes))
+    (subst (λ (s : ℤ). Is 1024 (strengthBy all recordSize blockCount (through blockOf blockCount nan votes)) s)
+    (score-is zs (readBy all recordSize blockCount (through blockOf blockCount nan votes)) ∙ ap (scoreOf zs) (read-is votes))
     (strong-blocks blockOf placeOf blockCount layout-undo all recordSize some 10 1024 votes zs (lit≤ tt) (lit≤ tt) (w .many) (w .means) (w .small)))
 
 pub records-apart : (xs ys : List ℕ) → IsRecord xs → IsRecord ys → (xs ≡ ys) ⊎ ((10 ≤ hamming (encodeOf xs) (encodeOf ys)) × (10 ≤ blocksApart xs ys))
@@ -103,11 +108,14 @@ unfolding all
 records-apart xs ys x y =
     elim (words-apart all (λ _ s. getD toHome s 0) 10 recordSize (λ i. lit< tt) ten xs ys (x .long) (y .long) (x .bytes) (y .bytes)) [
       | inl e ↦ inl e
-      | inr h ↦ (let words : 10 ≤ hamming (encodeOf xs) (encodeOf ys) = rw (sent-all 0 (encodeOf xs), sent-all 0 (encodeOf ys)) at h in inr (words, le-trans words (words-blocks xs ys x y)))
+      | inr h ↦ (let words : 10 ≤ hamming (encodeOf xs) (encodeOf ys) = rw (sent-all 0 (encodeOf xs), sent-all 0 (encodeOf ys)) at h in
+          inr (words, le-trans words (words-blocks xs ys x y)))
     ]
 
-pub corrects-record : (xs : List ℕ) (fates : List Fate) (votes : List Float) → IsRecord xs → zeroedCount fates + 2 * reversedCount fates ≤ 9 → Laid xs fates votes → decodedFrom votes ≡ xs
+pub corrects-record : (xs : List ℕ) (fates : List Fate) (votes : List Float) → IsRecord xs → zeroedCount fates + 2 * reversedCount fates ≤ 9
+    → Laid xs fates votes → decodedFrom votes ≡ xs
 corrects-record xs fates votes x few laid =
     sym (read-is votes)
-    ∙ corrects-blocks blockOf placeOf blockCount layout-undo all recordSize some (λ _ s. getD toHome s 0) 10 (λ i. unfold all in lit< tt) (unfold all in ten) xs fates votes (x .long) (x .bytes) (unfold all in rw (sends-all recordSize) (lit≤ tt)) (lit≤ tt) (omega arith)
+    ∙ corrects-blocks blockOf placeOf blockCount layout-undo all recordSize some (λ _ s. getD toHome s 0) 10 (λ i. unfold all in lit< tt) (unfold all in
+    ten) xs fates votes (x .long) (x .bytes) (unfold all in rw (sends-all recordSize) (lit≤ tt)) (lit≤ tt) (omega arith)
     (λ j h. laid .vote (blockOf j) (layout-undo .lo j h) ∙ ap (λ (c : ℕ). votedF c (getD fates (blockOf j) kept)) (bit-of-place xs j h ∙ sym (carried xs j)))

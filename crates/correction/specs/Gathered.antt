@@ -43,7 +43,8 @@ score-set [] (y ∷ zs) k z l h = absurd (omega arith)
 score-set (c ∷ cs) [] k z l h = absurd (omega arith)
 score-set (c ∷ cs) (y ∷ zs) zero z l h = ap (λ (x : ℤ). x +ℤ score cs zs) (voted-plus c y z) ∙ shuffle (voted negℤ c y) (voted negℤ c z) (score cs zs)
 score-set (c ∷ cs) (y ∷ zs) (suc k) z l h =
-    ap (λ (x : ℤ). voted negℤ c y +ℤ x) (score-set cs zs k z (omega arith) (omega arith)) ∙ sym (+ℤ-assoc (voted negℤ c y) (score cs zs) (voted negℤ (getD cs k 0) z))
+    ap (λ (x : ℤ). voted negℤ c y +ℤ x) (score-set cs zs k z (omega arith) (omega arith))
+    ∙ sym (+ℤ-assoc (voted negℤ c y) (score cs zs) (voted negℤ (getD cs k 0) z))
 
 voted-zero : (c : ℕ) → voted negℤ c (pos 0) ≡ pos 0
 voted-zero zero = refl

@@ -76,14 +76,17 @@ module _ (k : ℕ → ℕ) (r n : ℕ) (some : 0 < sends k r) where
       let two : q ≡ 2 * m = omega arith in
       let U = gather-votes l p n b us zs L some (le-of-eq (sym N ∙ votes-length v)) B h v in
       let fz = fill (pos 0) k 0 q gz in
-      let best = decoded-best l m (fill (fin false 0 (pos 0)) k 0 q gs) fz L (le-trans (fill-sizes k 0 q gz) (le-trans (gather-sizes p n b zs some h) B)) (fill-length (fin false 0 (pos 0)) k 0 q gs ∙ two) (fill-votes (2 ^ l) k 0 q U) in
+      let best = decoded-best l m (fill (fin false 0 (pos 0)) k 0 q gs) fz L (le-trans (fill-sizes k 0 q gz) (le-trans (gather-sizes p n b zs some h) B))
+      (fill-length (fin false 0 (pos 0)) k 0 q gs ∙ two) (fill-votes (2 ^ l) k 0 q U) in
       let hat = decoded floats (fill (fin false 0 (pos 0)) k 0 q gs) in
       let back : recordBits (bytesOf r hat) sixZeros ≡ hat = recordBits-bytesOf r 0 hat (omega arith) (best .bits) (best .long) (best .home) in
       let one-score : (bs : List ℕ) → length bs ≡ m → score (code 0 bs) fz ≡ placed p (sent k 0 (code 0 bs)) zs n =
       λ bs bl.
       let cl : length (code 0 bs) ≡ q = code-length 0 bs ∙ ap (λ (x : ℕ). 2 * x) bl ∙ sym two in
-      ap (λ (x : ℕ). score (code 0 bs) (fill (pos 0) k 0 x gz)) (sym cl) ∙ fill-score k 0 (code 0 bs) gz ∙ regroup p n (sent k 0 (code 0 bs)) zs some (sends-is k r (code 0 bs) cl) in
-      let is : score (code 0 hat) fz ≡ placed p (sent k 0 (code 0 (recordBits (bytesOf r hat) sixZeros))) zs n = one-score hat (best .long) ∙ ap (λ (x : List ℕ). placed p (sent k 0 (code 0 x)) zs n) (sym back) in
+      ap (λ (x : ℕ). score (code 0 bs) (fill (pos 0) k 0 x gz)) (sym cl) ∙ fill-score k 0 (code 0 bs) gz
+      ∙ regroup p n (sent k 0 (code 0 bs)) zs some (sends-is k r (code 0 bs) cl) in
+      let is : score (code 0 hat) fz ≡ placed p (sent k 0 (code 0 (recordBits (bytesOf r hat) sixZeros))) zs n =
+      one-score hat (best .long) ∙ ap (λ (x : List ℕ). placed p (sent k 0 (code 0 x)) zs n) (sym back) in
       record {
         strong = subst (λ (z : ℤ). Is (2 ^ l) (strength floats (fill (fin false 0 (pos 0)) k 0 q gs)) z) is (best .strong);
         most = λ ys y.
@@ -102,12 +105,14 @@ module _ (k : ℕ → ℕ) (r n : ℕ) (some : 0 < sends k r) where
         let bs = recordBits xs sixZeros in
         let bl : length bs ≡ 8 * length xs + 6 = recordBits-length xs sixZeros in
         let two : 2 * length bs ≡ coded r = omega arith in
-        let h = undone-by k φ least K P bs (sends k r) n ts (recordBits-bits xs sixZeros six-bits) (record-home xs) (sends-is k r (code 0 bs) (code-length 0 bs ∙ two)) some fits small ok in
+        let h = undone-by k φ least K P bs (sends k r) n ts (recordBits-bits xs sixZeros six-bits) (record-home xs)
+        (sends-is k r (code 0 bs) (code-length 0 bs ∙ two)) some fits small ok in
         ap (bytesOf r) (rw two at h) ∙ ap (λ (x : ℕ). bytesOf x bs) (sym e) ∙ bytesOf-recordBits xs sixZeros o
 
 -- ---- two records that differ, differ in at least so many of the coded bits sent
 
-pub words-apart : (k : ℕ → ℕ) (φ : ℕ → ℕ → ℕ) (least r : ℕ) → ((i : ℕ) → k i < 2) → Potential k φ least → (xs ys : List ℕ) → length xs ≡ r → length ys ≡ r → Bytes xs → Bytes ys
+pub words-apart : (k : ℕ → ℕ) (φ : ℕ → ℕ → ℕ) (least r : ℕ) → ((i : ℕ) → k i < 2) → Potential k φ least → (xs ys : List ℕ) → length xs ≡ r → length ys ≡ r
+    → Bytes xs → Bytes ys
     → (xs ≡ ys) ⊎ (least ≤ hamming (sent k 0 (encodeOf xs)) (sent k 0 (encodeOf ys)))
 unfolding encodeOf
 words-apart k φ least r K P xs ys lx ly ox oy =
@@ -116,7 +121,8 @@ words-apart k φ least r K P xs ys lx ly ox oy =
     let bl : length bs ≡ 8 * r + 6 = recordBits-length xs sixZeros ∙ ap (λ (x : ℕ). 8 * x + 6) lx in
     let dl : length ds ≡ 8 * r + 6 = recordBits-length ys sixZeros ∙ ap (λ (x : ℕ). 8 * x + 6) ly in
     let same : length (code 0 bs) ≡ length (code 0 ds) = code-length 0 bs ∙ ap (λ (x : ℕ). 2 * x) (bl ∙ sym dl) ∙ sym (code-length 0 ds) in
-    elim (split k φ least P 0 0 bs ds refl (lit< tt) (recordBits-bits xs sixZeros six-bits) (recordBits-bits ys sixZeros six-bits) (bl ∙ sym dl) (record-home xs ∙ sym (record-home ys))) [
+    elim (split k φ least P 0 0 bs ds refl (lit< tt) (recordBits-bits xs sixZeros six-bits) (recordBits-bits ys sixZeros six-bits) (bl ∙ sym dl)
+    (record-home xs ∙ sym (record-home ys))) [
       | inl e ↦ inl (sym (bytesOf-recordBits xs sixZeros ox) ∙ ap₂ bytesOf (lx ∙ sym ly) e ∙ bytesOf-recordBits ys sixZeros oy)
       | inr h ↦ inr (le-trans h (le-of-eq (sym (sent-apart k 0 (code 0 bs) (code 0 ds) K same))))
     ]

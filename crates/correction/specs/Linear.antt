@@ -56,7 +56,8 @@ parity-sum =
     base : (b g : ℕ) → parity g (bitXor 0 b) ≡ (parity g 0 + parity g b) % 2
     base b g = ap (λ (x : ℕ). parity g x) (xor-zero-l b) ∙ (let z = nothing g in let l = parity-lt g b in omega arith)
 
-    more : (a b g : ℕ) → parity (g / 2) (bitXor (a / 2) (b / 2)) ≡ (parity (g / 2) (a / 2) + parity (g / 2) (b / 2)) % 2 → parity g (bitXor a b) ≡ (parity g a + parity g b) % 2
+    more : (a b g : ℕ) → parity (g / 2) (bitXor (a / 2) (b / 2)) ≡ (parity (g / 2) (a / 2) + parity (g / 2) (b / 2)) % 2
+        → parity g (bitXor a b) ≡ (parity g a + parity g b) % 2
     more a b g ih =
         let X = bitXor a b in
         let D = (a % 2 + b % 2) % 2 in
@@ -67,7 +68,8 @@ parity-sum =
         parity-step g X
         ∙ ap₂ (λ (x y : ℕ). (min x (g % 2) + parity (g / 2) y) % 2) lo hi
         ∙ ap (λ (x : ℕ). (min D (g % 2) + x) % 2) ih
-        ∙ one-digit (a % 2) (b % 2) (g % 2) (parity (g / 2) (a / 2)) (parity (g / 2) (b / 2)) (omega arith) (omega arith) (omega arith) (parity-lt (g / 2) (a / 2)) (parity-lt (g / 2) (b / 2))
+        ∙ one-digit (a % 2) (b % 2) (g % 2) (parity (g / 2) (a / 2)) (parity (g / 2) (b / 2)) (omega arith) (omega arith) (omega arith)
+        (parity-lt (g / 2) (a / 2)) (parity-lt (g / 2) (b / 2))
         ∙ sym (ap₂ (λ (x y : ℕ). (x + y) % 2) (parity-step g a) (parity-step g b))
 
 pub parity-xor : (g a b : ℕ) → differ (parity g a) (parity g b) ≡ parity g (bitXor a b)

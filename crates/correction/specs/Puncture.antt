@@ -121,19 +121,22 @@ unfolding sizes fill
 fill-sizes k i zero zs = omega arith
 fill-sizes k i (suc n) zs = go (k i) zs (λ ws. fill-sizes k (suc i) n ws)
   where
-    go : (m : ℕ) (us : List ℤ) → ((ws : List ℤ) → sizes (fill (pos 0) k (suc i) n ws) ≤ sizes ws) → sizes (fillAt (pos 0) m us (λ ws. fill (pos 0) k (suc i) n ws)) ≤ sizes us
+    go : (m : ℕ) (us : List ℤ) → ((ws : List ℤ) → sizes (fill (pos 0) k (suc i) n ws) ≤ sizes ws)
+        → sizes (fillAt (pos 0) m us (λ ws. fill (pos 0) k (suc i) n ws)) ≤ sizes us
     go zero us h = omega (arith, h us)
     go (suc m) [] h = omega (arith, h [])
     go (suc m) (u ∷ us) h = omega (arith, h us)
 
-pub fill-votes : (c : ℕ) (k : ℕ → ℕ) (i n : ℕ) {xs : List Float} {zs : List ℤ} → Votes c xs zs → Votes c (fill (fin false 0 (pos 0)) k i n xs) (fill (pos 0) k i n zs)
+pub fill-votes : (c : ℕ) (k : ℕ → ℕ) (i n : ℕ) {xs : List Float} {zs : List ℤ} → Votes c xs zs
+    → Votes c (fill (fin false 0 (pos 0)) k i n xs) (fill (pos 0) k i n zs)
 unfolding fill
 fill-votes c k i zero v = Votes.none
 fill-votes c k i (suc n) {xs} {zs} v = go (k i) v (λ ps qs w. fill-votes c k (suc i) n w)
   where
     go : (m : ℕ) {us : List Float} {ws : List ℤ} → Votes c us ws
         → ((ps : List Float) (qs : List ℤ) → Votes c ps qs → Votes c (fill (fin false 0 (pos 0)) k (suc i) n ps) (fill (pos 0) k (suc i) n qs))
-        → Votes c (fillAt (fin false 0 (pos 0)) m us (λ ps. fill (fin false 0 (pos 0)) k (suc i) n ps)) (fillAt (pos 0) m ws (λ qs. fill (pos 0) k (suc i) n qs))
+        → Votes c (fillAt (fin false 0 (pos 0)) m us (λ ps. fill (fin false 0 (pos 0)) k (suc i) n ps))
+        (fillAt (pos 0) m ws (λ qs. fill (pos 0) k (suc i) n qs))
     go zero {us} {ws} w h = Votes.one (nought c false) (h us ws w)
     go (suc m) Votes.none h = Votes.one (nought c false) (h [] [] Votes.none)
     go (suc m) (Votes.one {xs = us} {zs = ws} x w) h = Votes.one x (h us ws w)

@@ -15,7 +15,8 @@ module _ {A : Type 0} (nil : A) (plus : A → A → A) where
   abbrev pub sum : (ℕ → A) → ℕ → A
   sum f n = sumTo plus nil n f
 
-  module _ (idl : (a : A) → plus nil a ≡ a) (idr : (a : A) → plus a nil ≡ a) (mix : (a b c d : A) → plus (plus a b) (plus c d) ≡ plus (plus a c) (plus b d)) where
+  module _ (idl : (a : A) → plus nil a ≡ a) (idr : (a : A) → plus a nil ≡ a) (mix : (a b c d : A)
+      → plus (plus a b) (plus c d) ≡ plus (plus a c) (plus b d)) where
     sum-nil : (n : ℕ) → sum (λ _. nil) n ≡ nil
     unfolding sumTo
     sum-nil zero = refl
@@ -33,7 +34,8 @@ module _ {A : Type 0} (nil : A) (plus : A → A → A) where
 
     -- a sum whose terms are nil but at k
     off : (f : ℕ → A) (k n : ℕ) → n ≤ k → sum (λ b. pick (eqb b k) (f b) nil) n ≡ nil
-    off f k n h = sum-same plus nil (λ b. pick (eqb b k) (f b) nil) (λ _. nil) n (λ j l. ap (λ (t : Bool). pick t (f j) nil) (ne-eqb j k (λ e. omega arith))) ∙ sum-nil n
+    off f k n h = sum-same plus nil (λ b. pick (eqb b k) (f b) nil) (λ _. nil) n
+        (λ j l. ap (λ (t : Bool). pick t (f j) nil) (ne-eqb j k (λ e. omega arith))) ∙ sum-nil n
 
     point : (f : ℕ → A) (k n : ℕ) → k < n → sum (λ b. pick (eqb b k) (f b) nil) n ≡ f k
     unfolding sumTo
@@ -48,7 +50,8 @@ module _ {A : Type 0} (nil : A) (plus : A → A → A) where
         ]
 
     -- where l and back undo each other below n, a sum over l's values is the sum over all
-    module _ (l back : ℕ → ℕ) (n : ℕ) (lo : (j : ℕ) → j < n → l j < n) (bo : (b : ℕ) → b < n → back b < n) (there : (j : ℕ) → j < n → back (l j) ≡ j) (again : (b : ℕ) → b < n → l (back b) ≡ b) where
+    module _ (l back : ℕ → ℕ) (n : ℕ) (lo : (j : ℕ) → j < n → l j < n) (bo : (b : ℕ) → b < n → back b < n) (there : (j : ℕ) → j < n → back (l j) ≡ j)
+        (again : (b : ℕ) → b < n → l (back b) ≡ b) where
       turned : (j b : ℕ) → j < n → b < n → eqb b (l j) ≡ eqb j (back b)
       turned j b J B = go (eqb b (l j)) refl
         where
@@ -61,4 +64,5 @@ module _ {A : Type 0} (nil : A) (plus : A → A → A) where
           sum-same plus nil (λ j. f (l j)) (λ j. sum (λ b. pick (eqb b (l j)) (f b) nil) n) n (λ j J. sym (point f (l j) n (lo j J)))
           ∙ exchange (λ j b. pick (eqb b (l j)) (f b) nil) n n
           ∙ sum-same plus nil (λ b. sum (λ j. pick (eqb b (l j)) (f b) nil) n) f n
-          (λ b B. sum-same plus nil (λ j. pick (eqb b (l j)) (f b) nil) (λ j. pick (eqb j (back b)) (f b) nil) n (λ j J. ap (λ (t : Bool). pick t (f b) nil) (turned j b J B)) ∙ point (λ _. f b) (back b) n (bo b B))
+          (λ b B. sum-same plus nil (λ j. pick (eqb b (l j)) (f b) nil) (λ j. pick (eqb j (back b)) (f b) nil) n
+          (λ j J. ap (λ (t : Bool). pick t (f b) nil) (turned j b J B)) ∙ point (λ _. f b) (back b) n (bo b B))

@@ -43,7 +43,8 @@ run-tail s (x ∷ xs) tail h k =
     let step : (b t : ℕ) → b < 2 → t < 64 → nextState b t < 64 = λ b t p q. omega arith in
     run-tail _ xs tail
     (step (x % 2) _ (half-bit x) (step (x / 2 % 2) _ (half-bit (x / 2)) (step (x / 4 % 2) _ (half-bit (x / 4)) (step (x / 8 % 2) _ (half-bit (x / 8))
-    (step (x / 16 % 2) _ (half-bit (x / 16)) (step (x / 32 % 2) _ (half-bit (x / 32)) (step (x / 64 % 2) _ (half-bit (x / 64)) (step (x / 128 % 2) s (half-bit (x / 128)) h))))))))
+    (step (x / 16 % 2) _ (half-bit (x / 16))
+    (step (x / 32 % 2) _ (half-bit (x / 32)) (step (x / 64 % 2) _ (half-bit (x / 64)) (step (x / 128 % 2) s (half-bit (x / 128)) h))))))))
     k
 
 pub record-home : (xs : List ℕ) → run 0 (recordBits xs sixZeros) ≡ 0
@@ -57,33 +58,39 @@ shift i k = omega (arith, mul-suc 8 i)
 shift′ : (i : ℕ) → 8 * suc i ≡ suc (suc (suc (suc (suc (suc (suc (suc (8 * i))))))))
 shift′ i = omega (arith, mul-suc 8 i)
 
-horner : {x a₁ a₂ a₃ a₄ a₅ a₆ a₇ b₇ : ℕ} (b₀ b₁ b₂ b₃ b₄ b₅ b₆ : ℕ) → x ≡ a₁ * 2 + b₀ → a₁ ≡ a₂ * 2 + b₁ → a₂ ≡ a₃ * 2 + b₂ → a₃ ≡ a₄ * 2 + b₃ → a₄ ≡ a₅ * 2 + b₄ → a₅ ≡ a₆ * 2 + b₅ → a₆ ≡ a₇ * 2 + b₆ → a₇ ≡ b₇
+horner : {x a₁ a₂ a₃ a₄ a₅ a₆ a₇ b₇ : ℕ} (b₀ b₁ b₂ b₃ b₄ b₅ b₆ : ℕ) → x ≡ a₁ * 2 + b₀ → a₁ ≡ a₂ * 2 + b₁ → a₂ ≡ a₃ * 2 + b₂ → a₃ ≡ a₄ * 2 + b₃
+    → a₄ ≡ a₅ * 2 + b₄ → a₅ ≡ a₆ * 2 + b₅ → a₆ ≡ a₇ * 2 + b₆ → a₇ ≡ b₇
     → b₇ * 128 + b₆ * 64 + b₅ * 32 + b₄ * 16 + b₃ * 8 + b₂ * 4 + b₁ * 2 + b₀ ≡ x
 horner b₀ b₁ b₂ b₃ b₄ b₅ b₆ p₀ p₁ p₂ p₃ p₄ p₅ p₆ p₇ = omega arith
 
 whole : (x : ℕ) → x < 256 → x / 128 % 2 * 128 + x / 64 % 2 * 64 + x / 32 % 2 * 32 + x / 16 % 2 * 16 + x / 8 % 2 * 8 + x / 4 % 2 * 4 + x / 2 % 2 * 2 + x % 2 ≡ x
 whole x h =
-    horner (x % 2) (x / 2 % 2) (x / 4 % 2) (x / 8 % 2) (x / 16 % 2) (x / 32 % 2) (x / 64 % 2) (let e : x ≡ x / 2 * 2 + x % 2 = omega arith in e) (let e : x / 2 ≡ x / 4 * 2 + x / 2 % 2 = omega arith in e) (let e : x / 4 ≡ x / 8 * 2 + x / 4 % 2 = omega arith in e)
-    (let e : x / 8 ≡ x / 16 * 2 + x / 8 % 2 = omega arith in e) (let e : x / 16 ≡ x / 32 * 2 + x / 16 % 2 = omega arith in e) (let e : x / 32 ≡ x / 64 * 2 + x / 32 % 2 = omega arith in e)
+    horner (x % 2) (x / 2 % 2) (x / 4 % 2) (x / 8 % 2) (x / 16 % 2) (x / 32 % 2) (x / 64 % 2) (let e : x ≡ x / 2 * 2 + x % 2 = omega arith in
+    e) (let e : x / 2 ≡ x / 4 * 2 + x / 2 % 2 = omega arith in e) (let e : x / 4 ≡ x / 8 * 2 + x / 4 % 2 = omega arith in e)
+    (let e : x / 8 ≡ x / 16 * 2 + x / 8 % 2 = omega arith in e) (let e : x / 16 ≡ x / 32 * 2 + x / 16 % 2 = omega arith in
+    e) (let e : x / 32 ≡ x / 64 * 2 + x / 32 % 2 = omega arith in e)
     (let e : x / 64 ≡ x / 128 * 2 + x / 64 % 2 = omega arith in e) (let e : x / 128 ≡ x / 128 % 2 = omega arith in e)
 
 pub byteAt-recordBits : (xs tail : List ℕ) (i : ℕ) → Bytes xs → i < length xs → byteAt (recordBits xs tail) i ≡ getD xs i 0
 unfolding byteAt recordBits
 byteAt-recordBits [] tail i o h = absurd (omega arith)
 byteAt-recordBits (x ∷ xs) tail zero o h = whole x (o 0)
-byteAt-recordBits (x ∷ xs) tail (suc i) o h = rw (shift i 1, shift i 2, shift i 3, shift i 4, shift i 5, shift i 6, shift i 7, shift′ i) (byteAt-recordBits xs tail i (λ j. o (suc j)) (omega arith))
+byteAt-recordBits (x ∷ xs) tail (suc i) o h =
+    rw (shift i 1, shift i 2, shift i 3, shift i 4, shift i 5, shift i 6, shift i 7, shift′ i) (byteAt-recordBits xs tail i (λ j. o (suc j)) (omega arith))
 
 pub bytesOf-recordBits : (xs tail : List ℕ) → Bytes xs → bytesOf (length xs) (recordBits xs tail) ≡ xs
 unfolding bytesOf
 bytesOf-recordBits xs tail o =
     ext-getD 0 (tab (byteAt (recordBits xs tail)) (length xs)) xs (length-tab (byteAt (recordBits xs tail)) (length xs))
-    (λ i h. let h′ : i < length xs = omega (arith, length-tab (byteAt (recordBits xs tail)) (length xs)) in getD-tab (byteAt (recordBits xs tail)) (length xs) i 0 h′ ∙ byteAt-recordBits xs tail i o h′)
+    (λ i h. let h′ : i < length xs = omega (arith, length-tab (byteAt (recordBits xs tail)) (length xs)) in
+    getD-tab (byteAt (recordBits xs tail)) (length xs) i 0 h′ ∙ byteAt-recordBits xs tail i o h′)
 
 -- ---- bits that lead home are a record's bits and six zeros
 
 bit-back : {x : ℕ} (a q r m : ℕ) → a < 2 → r < m → x ≡ (q * 2 + a) * m + r → 0 < m → x / m % 2 ≡ a
 bit-back {x} a q r m A R e M =
-    let d : x / m ≡ q * 2 + a = ap (λ (y : ℕ). y / m) (e ∙ add-comm ((q * 2 + a) * m) r) ∙ add-mul-div-right r (q * 2 + a) M ∙ (let z : r / m ≡ 0 = div-eq-of-lt R in omega arith) in
+    let d : x / m ≡ q * 2 + a =
+    ap (λ (y : ℕ). y / m) (e ∙ add-comm ((q * 2 + a) * m) r) ∙ add-mul-div-right r (q * 2 + a) M ∙ (let z : r / m ≡ 0 = div-eq-of-lt R in omega arith) in
     omega arith
 
 module _ (a b c d e f g h : ℕ) (A : a < 2) (B : b < 2) (C : c < 2) (D : d < 2) (E : e < 2) (F : f < 2) (G : g < 2) (H : h < 2) where
@@ -136,7 +143,8 @@ record-front : (n a b c d e f g h : ℕ) (bs : List ℕ)
 unfolding bytesOf byteAt
 record-front n a b c d e f g h bs =
     let all = a ∷ b ∷ c ∷ d ∷ e ∷ f ∷ g ∷ h ∷ bs in
-    tab-front (byteAt all) n ∙ ap (λ (xs : List ℕ). byteAt all 0 ∷ xs) (tab-same (λ i. byteAt all (suc i)) (byteAt bs) n (λ i k. byteAt-next a b c d e f g h bs i))
+    tab-front (byteAt all) n
+    ∙ ap (λ (xs : List ℕ). byteAt all 0 ∷ xs) (tab-same (λ i. byteAt all (suc i)) (byteAt bs) n (λ i k. byteAt-next a b c d e f g h bs i))
 
 pub recordBits-bytesOf : (n s : ℕ) (bs : List ℕ) → s < 64 → Bits bs → length bs ≡ 8 * n + 6 → run s bs ≡ 0 → recordBits (bytesOf n bs) sixZeros ≡ bs
 unfolding recordBits run

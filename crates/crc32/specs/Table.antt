@@ -19,7 +19,8 @@ table-at k y h =
 
 -- a byte by its two halves
 pub byte-halves : (k y : ℕ)
-    → registerTurns reflected (8 * (k + 1)) (y % 256) ≡ bitXor (registerTurns reflected (4 * (2 * k + 1 + 1)) (y % 16)) (registerTurns reflected (4 * (2 * k + 1)) (y / 16 % 16))
+    → registerTurns reflected (8 * (k + 1)) (y % 256)
+    ≡ bitXor (registerTurns reflected (4 * (2 * k + 1 + 1)) (y % 16)) (registerTurns reflected (4 * (2 * k + 1)) (y / 16 % 16))
 byte-halves k y =
     let n = 4 * (2 * k + 1) in
     let both : 8 * (k + 1) ≡ 4 + n = omega arith in

@@ -78,12 +78,14 @@ columns-all g c p e b =
     let d : i / 8 * 8 + i % 8 ≡ i = div-add-mod' i 8 in
     let R : i / 8 < 8 = omega (arith, b .0) in
     let K : i % 8 < 8 = omega arith in
-    ap (λ (n : ℕ). getD p n nan) (sym d) ∙ (b .1 (i / 8) (i % 8) R (omega arith) ∙ (sym (cell-grid g (i / 8) (i % 8) R K) ∙ ap (λ (n : ℕ). getD (grid g) n nan) d)))
+    ap (λ (n : ℕ). getD p n nan) (sym d)
+    ∙ (b .1 (i / 8) (i % 8) R (omega arith) ∙ (sym (cell-grid g (i / 8) (i % 8) R K) ∙ ap (λ (n : ℕ). getD (grid g) n nan) d)))
 
 -- ---- the same, as a table of the places
 
 pub table-grid : (g : ℕ → ℕ → Float) → tab (λ p. g (p / 8) (p % 8)) 64 ≡ grid g
-table-grid g = columns-all g 8 (tab at 64) refl (length-tab at 64, λ r c R C. getD-tab at 64 (r * 8 + c) nan (omega arith) ∙ ap₂ g (digits-div r C) (digits-mod r C))
+table-grid g = columns-all g 8 (tab at 64) refl
+    (length-tab at 64, λ r c R C. getD-tab at 64 (r * 8 + c) nan (omega arith) ∙ ap₂ g (digits-div r C) (digits-mod r C))
   where
     at : ℕ → Float
     at p = g (p / 8) (p % 8)

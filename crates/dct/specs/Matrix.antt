@@ -1,4 +1,5 @@
--- The matrix of the 8x8 transform: 64 constants, by bit pattern, row k, column i. Each is s * cos(pi (2 i + 1) k / 16) in `f32`, s the root of 1/8 for k = 0 and 1/2 otherwise.
+-- The matrix of the 8x8 transform: 64 constants, by bit pattern, row k, column i. Each is s * cos(pi (2 i + 1) k / 16) in
+-- `f32`, s the root of 1/8 for k = 0 and 1/2 otherwise.
 -- Definitions only.
 use mathlib.Core.List.{List, [], _∷_, map}
 use Prim.Native.Nat.{ℕ}

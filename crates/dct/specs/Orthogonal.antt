@@ -1,4 +1,5 @@
--- The matrix's rule, computed over whole numbers: each constant scaled by 2 ^ 27 is whole, and the sum of the products of two rows is within 2 ^ 31 of 2 ^ 54 for a row with itself, of 0 for two rows.
+-- The matrix's rule, computed over whole numbers: each constant scaled by 2 ^ 27 is whole, and the sum of the products of two
+-- rows is within 2 ^ 31 of 2 ^ 54 for a row with itself, of 0 for two rows.
 use mathlib.Core.Bool.{Bool, true, false, _&&_, cond}
 use mathlib.Core.List.{List, [], _∷_}
 use Prim.Native.Nat.{ℕ, suc, _+_, _*_, _/_, _%_, _^_}

@@ -1,4 +1,5 @@
--- The product of two 8x8 matrices in `f32`, and what it has to do with the transforms: a block times the turned matrix puts its lines through the matrix, and the matrix times a block its columns.
+-- The product of two 8x8 matrices in `f32`, and what it has to do with the transforms: a block times the turned matrix puts its
+-- lines through the matrix, and the matrix times a block its columns.
 use mathlib.Core.Path.{_≡_, _∙_, ap}
 use mathlib.Core.List.{List}
 use Prim.Native.Nat.{ℕ}
@@ -17,9 +18,11 @@ rows-by w x b e =
     grid-same _ _
     (λ r k R K.
     sum-same (add binary32) zero- _ _ 8
-    (λ j J. mul-commutes binary32 (cell x r j) (cell b j k) ∙ ap (λ (z : Float). mul binary32 z (cell x r j)) (ap (λ (l : List Float). cell l j k) e ∙ cell-grid (λ j k. w k j) j k J K)))
+    (λ j J. mul-commutes binary32 (cell x r j) (cell b j k)
+    ∙ ap (λ (z : Float). mul binary32 z (cell x r j)) (ap (λ (l : List Float). cell l j k) e ∙ cell-grid (λ j k. w k j) j k J K)))
 
 pub columns-by : (w : ℕ → ℕ → Float) (a x : List Float) → a ≡ grid w → grid (dotOf a x) ≡ throughColumns w x
 unfolding dotOf throughColumns
 columns-by w a x e =
-    grid-same _ _ (λ k c K C. sum-same (add binary32) zero- _ _ 8 (λ j J. ap (λ (z : Float). mul binary32 z (cell x j c)) (ap (λ (l : List Float). cell l k j) e ∙ cell-grid w k j K J)))
+    grid-same _ _ (λ k c K C. sum-same (add binary32) zero- _ _ 8
+    (λ j J. ap (λ (z : Float). mul binary32 z (cell x j c)) (ap (λ (l : List Float). cell l k j) e ∙ cell-grid w k j K J)))

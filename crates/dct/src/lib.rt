@@ -1,5 +1,5 @@
-// The 8x8 transform of document 01 and its inverse, for the crate `marking`. Every promise is an equation over the definitions
-// in specs/Dct.antt, for every value, finite or not.
+// The 8x8 transform of a block and its inverse (section 13 of the scope), for the crate `plane`. Every promise is an equation
+// over the definitions in specs/Dct.antt, for every value, finite or not.
 mod matrix;
 
 use matrix::MATRIX;

@@ -15,7 +15,8 @@ use Rattle.decoder.specs.Decisions.{packed, decisionRows, tracedFrom, tr
 use Rattle.decoder.specs.Trace.{metricsAfter-more, decisionRows-more}
 
 module _ {A : Type 0} where
-  pub take-two : (xs : List A) (t : ℕ) (d : A) → 2 * t + 1 < length xs → take (2 * (t + 1)) xs ≡ take (2 * t) xs ++ (getD xs (2 * t) d ∷ getD xs (2 * t + 1) d ∷ [])
+  pub take-two : (xs : List A) (t : ℕ) (d : A) → 2 * t + 1 < length xs
+      → take (2 * (t + 1)) xs ≡ take (2 * t) xs ++ (getD xs (2 * t) d ∷ getD xs (2 * t + 1) d ∷ [])
   take-two xs t d h =
       let e : 2 * (t + 1) ≡ suc (2 * t + 1) = omega arith in
       let f : 2 * t + 1 ≡ suc (2 * t) = omega arith in
@@ -35,7 +36,8 @@ pub orig-at : (ds : List ℕ) (k t j : ℕ) → t < length ds → j ≡ tracedFr
 unfolding tracedFrom
 orig-at ds k t j h e = rw (drop-cons ds t 0 h, e) refl
 
-pub path-at : (ds : List ℕ) (k t j : ℕ) → t < length ds → j ≡ tracedFrom (drop (suc t) ds) k → tracedPath (drop t ds) k ≡ j / 32 ∷ tracedPath (drop (suc t) ds) k
+pub path-at : (ds : List ℕ) (k t j : ℕ) → t < length ds → j ≡ tracedFrom (drop (suc t) ds) k
+    → tracedPath (drop t ds) k ≡ j / 32 ∷ tracedPath (drop (suc t) ds) k
 unfolding tracedPath
 path-at ds k t j h e = rw (drop-cons ds t 0 h, e) refl
 
@@ -45,18 +47,22 @@ module _ {M W : Type 0} (o : Sums M W) (m₀ : List M) (vs : List W) (d : W) whe
   even-take : (t : ℕ) → 2 * t + 1 < length vs → length (take (2 * t) vs) ≡ 2 * t
   even-take t h = length-take-le (2 * t) vs (omega arith)
 
-  pub metric-step : (t : ℕ) (m n : List M) → 2 * t + 1 < length vs → m ≡ metricsAfter o m₀ (take (2 * t) vs) → n ≡ nextMetrics o m (getD vs (2 * t) d) (getD vs (2 * t + 1) d) → n ≡ metricsAfter o m₀ (take (2 * (t + 1)) vs)
+  pub metric-step : (t : ℕ) (m n : List M) → 2 * t + 1 < length vs → m ≡ metricsAfter o m₀ (take (2 * t) vs)
+      → n ≡ nextMetrics o m (getD vs (2 * t) d) (getD vs (2 * t + 1) d) → n ≡ metricsAfter o m₀ (take (2 * (t + 1)) vs)
   metric-step t m n h e f =
       f ∙ ap (λ (x : List M). nextMetrics o x (getD vs (2 * t) d) (getD vs (2 * t + 1) d)) e
-      ∙ sym (ap (metricsAfter o m₀) (take-two vs t d h) ∙ metricsAfter-more o m₀ (take (2 * t) vs) t (getD vs (2 * t) d) (getD vs (2 * t + 1) d) (even-take t h))
+      ∙ sym (ap (metricsAfter o m₀) (take-two vs t d h)
+      ∙ metricsAfter-more o m₀ (take (2 * t) vs) t (getD vs (2 * t) d) (getD vs (2 * t + 1) d) (even-take t h))
 
-  pub rows-step : (t : ℕ) (m : List M) (out : List ℕ) (q : ℕ) → 2 * t + 1 < length vs → t < length out → m ≡ metricsAfter o m₀ (take (2 * t) vs) → q ≡ packed (oddAt o m (getD vs (2 * t) d) (getD vs (2 * t + 1) d)) 64
+  pub rows-step : (t : ℕ) (m : List M) (out : List ℕ) (q : ℕ) → 2 * t + 1 < length vs → t < length out → m ≡ metricsAfter o m₀ (take (2 * t) vs)
+      → q ≡ packed (oddAt o m (getD vs (2 * t) d) (getD vs (2 * t + 1) d)) 64
       → take t out ≡ decisionRows o m₀ (take (2 * t) vs) → take (t + 1) (set out t q) ≡ decisionRows o m₀ (take (2 * (t + 1)) vs)
   rows-step t m out q h k e f r =
       ap (λ (n : ℕ). take n (set out t q)) (add-one t)
       ∙ take-suc-set out t q k
       ∙ ap₂ (λ (l : List ℕ) (x : ℕ). l ++ (x ∷ [])) r (f ∙ ap (λ (x : List M). packed (oddAt o x (getD vs (2 * t) d) (getD vs (2 * t + 1) d)) 64) e)
-      ∙ sym (ap (decisionRows o m₀) (take-two vs t d h) ∙ decisionRows-more o m₀ (take (2 * t) vs) t (getD vs (2 * t) d) (getD vs (2 * t + 1) d) (even-take t h))
+      ∙ sym (ap (decisionRows o m₀) (take-two vs t d h)
+      ∙ decisionRows-more o m₀ (take (2 * t) vs) t (getD vs (2 * t) d) (getD vs (2 * t + 1) d) (even-take t h))
 
 -- ---- a byte, one bit more
 

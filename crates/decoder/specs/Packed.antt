@@ -31,9 +31,13 @@ module _ (f : ℕ → ℕ) (B : (i : ℕ) → f i < 2) where
             let d = n - suc j in
             let e : n ≡ suc d + j = omega arith in
             let s : f n * 2 ^ n ≡ f n * 2 ^ d * 2 * 2 ^ j =
-            ap (λ (x : ℕ). f n * 2 ^ x) e ∙ ap (λ (x : ℕ). f n * x) (pow-add 2 (suc d) j ∙ ap (λ (x : ℕ). x * 2 ^ j) (pow-suc 2 d)) ∙ sym (mul-assoc (f n) (2 ^ d * 2) (2 ^ j)) ∙ ap (λ (x : ℕ). x * 2 ^ j) (sym (mul-assoc (f n) (2 ^ d) 2)) in
-            let q : (packed f n + f n * 2 ^ n) / 2 ^ j ≡ packed f n / 2 ^ j + f n * 2 ^ d * 2 = ap (λ (x : ℕ). (packed f n + x) / 2 ^ j) s ∙ add-mul-div-right (packed f n) (f n * 2 ^ d * 2) (pow-pos j) in
-            ap (λ (x : ℕ). x % 2) q ∙ (let z : (packed f n / 2 ^ j + f n * 2 ^ d * 2) % 2 ≡ packed f n / 2 ^ j % 2 = even-off (packed f n / 2 ^ j) (f n * 2 ^ d) in z) ∙ unpacked n j g
+            ap (λ (x : ℕ). f n * 2 ^ x) e ∙ ap (λ (x : ℕ). f n * x) (pow-add 2 (suc d) j ∙ ap (λ (x : ℕ). x * 2 ^ j) (pow-suc 2 d))
+            ∙ sym (mul-assoc (f n) (2 ^ d * 2) (2 ^ j)) ∙ ap (λ (x : ℕ). x * 2 ^ j) (sym (mul-assoc (f n) (2 ^ d) 2)) in
+            let q : (packed f n + f n * 2 ^ n) / 2 ^ j ≡ packed f n / 2 ^ j + f n * 2 ^ d * 2 =
+            ap (λ (x : ℕ). (packed f n + x) / 2 ^ j) s ∙ add-mul-div-right (packed f n) (f n * 2 ^ d * 2) (pow-pos j) in
+            ap (λ (x : ℕ). x % 2) q
+            ∙ (let z : (packed f n / 2 ^ j + f n * 2 ^ d * 2) % 2 ≡ packed f n / 2 ^ j % 2 = even-off (packed f n / 2 ^ j) (f n * 2 ^ d) in z)
+            ∙ unpacked n j g
       ]
     where
       even-off : (x y : ℕ) → (x + y * 2) % 2 ≡ x % 2

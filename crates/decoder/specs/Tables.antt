@@ -70,12 +70,15 @@ module _ (m : List Float) (v w : Float) (k : ℕ) (K : k < 64) where
   unfolding cand
   cand-even = refl
 
-  pub cand-odd : sub binary32 (sub binary32 (getD m (2 * k % 64 + 1) nan) (voted neg (out1 (2 * k)) v)) (voted neg (out2 (2 * k)) w) ≡ cand floats m v w (2 * k + 1)
+  pub cand-odd : sub binary32 (sub binary32 (getD m (2 * k % 64 + 1) nan) (voted neg (out1 (2 * k)) v)) (voted neg (out2 (2 * k)) w)
+      ≡ cand floats m v w (2 * k + 1)
   unfolding cand sub
   cand-odd =
       let i : 2 * k % 64 + 1 ≡ (2 * k + 1) % 64 = omega arith in
-      let p : neg (voted neg (out1 (2 * k)) v) ≡ voted neg (out1 (2 * k + 1)) v = sym (ap (λ (c : ℕ). voted neg c v) (odd1 k K) ∙ voted-other (out1 (2 * k)) v (parity-lt 0o171 (2 * k))) in
-      let q : neg (voted neg (out2 (2 * k)) w) ≡ voted neg (out2 (2 * k + 1)) w = sym (ap (λ (c : ℕ). voted neg c w) (odd2 k K) ∙ voted-other (out2 (2 * k)) w (parity-lt 0o133 (2 * k))) in
+      let p : neg (voted neg (out1 (2 * k)) v) ≡ voted neg (out1 (2 * k + 1)) v =
+      sym (ap (λ (c : ℕ). voted neg c v) (odd1 k K) ∙ voted-other (out1 (2 * k)) v (parity-lt 0o171 (2 * k))) in
+      let q : neg (voted neg (out2 (2 * k)) w) ≡ voted neg (out2 (2 * k + 1)) w =
+      sym (ap (λ (c : ℕ). voted neg c w) (odd2 k K) ∙ voted-other (out2 (2 * k)) w (parity-lt 0o133 (2 * k))) in
       ap (λ (j : ℕ). add binary32 (add binary32 (getD m j nan) (neg (voted neg (out1 (2 * k)) v))) (neg (voted neg (out2 (2 * k)) w))) i
       ∙ ap₂ (λ (x y : Float). add binary32 (add binary32 (getD m ((2 * k + 1) % 64) nan) x) y) p q
 
@@ -84,7 +87,8 @@ voted-one zero v h = absurd (h refl)
 voted-one (suc c) v h = refl
 
 -- the winner of state k, by the two tests that the code makes
-pub winner-law : (m : List Float) (v w : Float) (k e : ℕ) (a b even : Float) (t : Bool) → k < 64 → e ≡ 2 * k % 64 → a ≡ voted neg (out1 (2 * k)) v → b ≡ voted neg (out2 (2 * k)) w
+pub winner-law : (m : List Float) (v w : Float) (k e : ℕ) (a b even : Float) (t : Bool) → k < 64 → e ≡ 2 * k % 64 → a ≡ voted neg (out1 (2 * k)) v
+    → b ≡ voted neg (out2 (2 * k)) w
     → even ≡ pick (lt (inf true) (add binary32 (add binary32 (getD m e nan) a) b)) (add binary32 (add binary32 (getD m e nan) a) b) (inf true)
     → lt even (sub binary32 (sub binary32 (getD m (e + 1) nan) a) b) ≡ t
     → (pick t (sub binary32 (sub binary32 (getD m (e + 1) nan) a) b) even ≡ bestAt floats m v w k) × (pick t 1 0 ≡ oddAt floats m v w k)

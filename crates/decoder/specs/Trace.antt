@@ -51,22 +51,26 @@ module _ {M W : Type 0} (o : Sums M W) where
 
   -- ---- one step more at the end
 
-  pub metricsAfter-more : (m : List M) (vs : List W) (n : ℕ) (v w : W) → length vs ≡ 2 * n → metricsAfter o m (vs ++ (v ∷ w ∷ [])) ≡ nextMetrics o (metricsAfter o m vs) v w
+  pub metricsAfter-more : (m : List M) (vs : List W) (n : ℕ) (v w : W) → length vs ≡ 2 * n
+      → metricsAfter o m (vs ++ (v ∷ w ∷ [])) ≡ nextMetrics o (metricsAfter o m vs) v w
   unfolding metricsAfter
   metricsAfter-more m [] n v w h = refl
   metricsAfter-more m (x ∷ []) n v w h = absurd (omega arith)
   metricsAfter-more m (x ∷ y ∷ vs) zero v w h = absurd (omega arith)
   metricsAfter-more m (x ∷ y ∷ vs) (suc n) v w h = metricsAfter-more (nextMetrics o m x y) vs n v w (omega arith)
 
-  pub decisionRows-more : (m : List M) (vs : List W) (n : ℕ) (v w : W) → length vs ≡ 2 * n → decisionRows o m (vs ++ (v ∷ w ∷ [])) ≡ decisionRows o m vs ++ (packed (oddAt o (metricsAfter o m vs) v w) 64 ∷ [])
+  pub decisionRows-more : (m : List M) (vs : List W) (n : ℕ) (v w : W) → length vs ≡ 2 * n
+      → decisionRows o m (vs ++ (v ∷ w ∷ [])) ≡ decisionRows o m vs ++ (packed (oddAt o (metricsAfter o m vs) v w) 64 ∷ [])
   unfolding metricsAfter decisionRows
   decisionRows-more m [] n v w h = refl
   decisionRows-more m (x ∷ []) n v w h = absurd (omega arith)
   decisionRows-more m (x ∷ y ∷ vs) zero v w h = absurd (omega arith)
-  decisionRows-more m (x ∷ y ∷ vs) (suc n) v w h = ap (λ (ds : List ℕ). packed (oddAt o m x y) 64 ∷ ds) (decisionRows-more (nextMetrics o m x y) vs n v w (omega arith))
+  decisionRows-more m (x ∷ y ∷ vs) (suc n) v w h =
+      ap (λ (ds : List ℕ). packed (oddAt o m x y) 64 ∷ ds) (decisionRows-more (nextMetrics o m x y) vs n v w (omega arith))
 
 -- what the code's two loops make, put together
-pub decoded-by : {M W : Type 0} (o : Sums M W) (vs : List W) (ds bs : List ℕ) (end : ℕ) → end ≡ 0 → ds ≡ decisionRows o (starting o) vs → bs ≡ tracedPath ds end → bs ≡ decoded o vs
+pub decoded-by : {M W : Type 0} (o : Sums M W) (vs : List W) (ds bs : List ℕ) (end : ℕ) → end ≡ 0 → ds ≡ decisionRows o (starting o) vs
+    → bs ≡ tracedPath ds end → bs ≡ decoded o vs
 unfolding decoded
 decoded-by o vs ds bs end e p q = q ∙ ap₂ tracedPath p e ∙ path-rows o (starting o) vs 0 (omega arith)
 

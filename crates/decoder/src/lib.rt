@@ -65,7 +65,8 @@ struct Ended {
 // All steps: for each, which states were reached from their odd predecessor; and the end of the path.
 fn forward(soft: &[f32], decisions: &mut [u64]) -> Ended
     requires { ⌜ length (now soft) ≡ 2 * length (now decisions) ⌝ }
-    ensures { λ r. ⌜ (r .state ≡ 0) × (r .metric ≡ strength floats (now (soft .entry))) × (now (decisions .exit) ≡ decisionRows floats (starting floats) (now (soft .entry))) ⌝ }
+    ensures { λ r. ⌜ (r .state ≡ 0) × (r .metric ≡ strength floats (now (soft .entry)))
+        × (now (decisions .exit) ≡ decisionRows floats (starting floats) (now (soft .entry))) ⌝ }
 {
     let mut metric = [minus_infinity(); 64];
     metric[0] = 0.0;

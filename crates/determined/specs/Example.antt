@@ -1,4 +1,5 @@
--- What the statement says, written out by computation for `resilient::write`: its outcome is the answer, the samples and the work area, and its promise an equation for each.
+-- What the statement says, written out by computation for `resilient::write`: its outcome is the answer, the samples and the
+-- work area, and its promise an equation for each.
 use mathlib.Core.Path.{_≡_, refl}
 use mathlib.Core.List.{List}
 use Prim.Native.Nat.{ℕ}
@@ -23,5 +24,6 @@ module _ (κs : Lfts 3) (samples : RefT (List ℕ)) (picture : Picture) (text : 
   pub write-outcome : Ending write.ended κs arguments ≡ (Answer × (List ℕ × (Unit {0} × (Unit {0} × (Unit {0} × (List Float × Unit {0}))))))
   write-outcome = refl
 
-  pub write-allows : (r : Answer) (s : List ℕ) (w : List Float) → Allows write.ended write.Reads.Post κs arguments (r, (s, (tt, (tt, (tt, (w, tt)))))) ≡ ((r ≡ the .answer) × ((s ≡ the .samples) × (w ≡ the .work)))
+  pub write-allows : (r : Answer) (s : List ℕ) (w : List Float)
+      → Allows write.ended write.Reads.Post κs arguments (r, (s, (tt, (tt, (tt, (w, tt)))))) ≡ ((r ≡ the .answer) × ((s ≡ the .samples) × (w ≡ the .work)))
   write-allows r s w = refl

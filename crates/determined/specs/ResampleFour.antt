@@ -3,8 +3,8 @@ use Rattle.determined.specs.One.{one}
 use Rattle.determined.specs.Determined.{Determined}
 use Rattle.resample_four.proofs as resample_four
 
-pub luma-one : Determined resample_four.luma.ended resample_four.luma.Reads.Post
-luma-one κs a x y p q i = (tt, (tt, (tt, (one p q i, tt))))
+pub luma-from-one : Determined resample_four.luma_from.ended resample_four.luma_from.Reads.Post
+luma-from-one κs a x y p q i = (one p q i, x .1)
 
 pub shares-one : Determined resample_four.shares.ended resample_four.shares.Reads.Post
 shares-one κs a x y p q i = (tt, (one p q i, tt))

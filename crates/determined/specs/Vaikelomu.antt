@@ -4,12 +4,41 @@ use Rattle.determined.specs.Determined.{Determined}
 use Rattle.vaikelomu.proofs as vaikelomu
 
 pub vaikelomu-write-one : Determined vaikelomu.vaikelomu_write.ended vaikelomu.vaikelomu_write.Reads.Post
-vaikelomu-write-one κs a x y p q i =
-    (one (p .0) (q .0) i, (one (p .1 .0) (q .1 .0) i, (tt, (tt, (tt, (tt, (tt, (tt, (tt, (one (p .1 .1 .0) (q .1 .1 .0) i, (one (p .1 .1 .1) (q .1 .1 .1) i, tt)))))))))))
+vaikelomu-write-one κs a x y p q i = (
+  one (p .0) (q .0) i,
+  (
+    one (p .1 .0)
+        (q .1 .0) i,
+    (tt, (tt, (tt, (tt, (tt, (tt, (tt, (one (p .1 .1 .0) (q .1 .1 .0) i, (one (p .1 .1 .1) (q .1 .1 .1) i, tt))))))))),
+  ),
+)
 
 pub vaikelomu-read-one : Determined vaikelomu.vaikelomu_read.ended vaikelomu.vaikelomu_read.Reads.Post
-vaikelomu-read-one κs a x y p q i =
-    (one (p .0) (q .0) i, (tt, (tt, (tt, (tt, (tt, (tt, (one (p .1 .0) (q .1 .0) i, (one (p .1 .1 .0) (q .1 .1 .0) i, (one (p .1 .1 .1 .0) (q .1 .1 .1 .0) i, (one (p .1 .1 .1 .1) (q .1 .1 .1 .1) i, tt)))))))))))
+vaikelomu-read-one κs a x y p q i = (
+  one (p .0) (q .0) i,
+  (
+    tt,
+    (
+      tt,
+      (
+        tt,
+        (
+          tt,
+          (
+            tt,
+            (
+              tt,
+              (
+                one (p .1 .0) (q .1 .0) i,
+                (one (p .1 .1 .0) (q .1 .1 .0) i, (one (p .1 .1 .1 .0) (q .1 .1 .1 .0) i, (one (p .1 .1 .1 .1) (q .1 .1 .1 .1) i, tt))),
+              ),
+            ),
+          ),
+        ),
+      ),
+    ),
+  ),
+)
 
 pub vaikelomu-read-votes-one : Determined vaikelomu.vaikelomu_read_votes.ended vaikelomu.vaikelomu_read_votes.Reads.Post
 vaikelomu-read-votes-one κs a x y p q i =

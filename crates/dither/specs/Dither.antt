@@ -1,4 +1,5 @@
--- The dither: the layout's key, nonce 1 then eleven zeros, 4,096 little-endian words; each is the word shifted right by 8, divided by 2^24. Block b, coefficient k uses number 4 b + k.
+-- The dither: the layout's key, nonce 1 then eleven zeros, 4,096 little-endian words; each is the word shifted right by 8,
+-- divided by 2^24. Block b, coefficient k uses number 4 b + k.
 -- Definitions only.
 use mathlib.Core.List.{List, _∷_}
 use Prim.Native.Nat.{ℕ, _/_, _%_, _^_}

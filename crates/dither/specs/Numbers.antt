@@ -28,7 +28,8 @@ quotient : (n : ℕ) → n < 2 ^ 24 → HasValue (div binary32 (ofInt binary32 (
 unfolding ofInt
 quotient n h =
     subst (λ (x : Float). HasValue x false n (2 ^ 24))
-    (sym (div-value-at binary32 (round binary32 false n 1) (two-to 24) false false n 1 (2 ^ 24) 1 (zero-lt-suc 0) (lit< tt) (zero-lt-suc 0) (round-whole binary32 false n (omega arith)) (refl, refl)
+    (sym (div-value-at binary32 (round binary32 false n 1) (two-to 24) false false n 1 (2 ^ 24) 1 (zero-lt-suc 0) (lit< tt) (zero-lt-suc 0)
+    (round-whole binary32 false n (omega arith)) (refl, refl)
     ∙ ap (λ (a : ℕ). round binary32 false a (1 * 2 ^ 24)) (mul-one n)))
     (exact-at binary32 false n 24 (lit≤ tt) (omega arith))
 
@@ -39,7 +40,8 @@ dither-exact n =
     let k = n % 16 in
     let m = word bytes k / 2 ^ 8 in
     let at : (i : ℕ) → getD bytes i 0 < 256 = block-below layoutKey (n / 16) ditherNonce in
-    let h : m < 2 ^ 24 = below-24 (getD bytes (4 * k) 0) (getD bytes (4 * k + 1) 0) (getD bytes (4 * k + 2) 0) (getD bytes (4 * k + 3) 0) (at (4 * k)) (at (4 * k + 1)) (at (4 * k + 2)) (at (4 * k + 3)) in
+    let h : m < 2 ^ 24 = below-24 (getD bytes (4 * k) 0) (getD bytes (4 * k + 1) 0) (getD bytes (4 * k + 2) 0) (getD bytes (4 * k + 3) 0) (at (4 * k))
+    (at (4 * k + 1)) (at (4 * k + 2)) (at (4 * k + 3)) in
     (m, h, quotient m h)
 
 -- the sixteen numbers of block g of the keystream are those from 16 g on

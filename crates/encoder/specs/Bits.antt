@@ -27,7 +27,10 @@ pub recordBits-bits : (xs tail : List ℕ) → Bits tail → Bits (recordBits xs
 unfolding recordBits
 recordBits-bits [] tail t = t
 recordBits-bits (x ∷ xs) tail t =
-    one (half-bit (x / 128)) (one (half-bit (x / 64)) (one (half-bit (x / 32)) (one (half-bit (x / 16)) (one (half-bit (x / 8)) (one (half-bit (x / 4)) (one (half-bit (x / 2)) (one (half-bit x) (recordBits-bits xs tail t))))))))
+    one (half-bit (x / 128))
+    (one (half-bit (x / 64))
+    (one (half-bit (x / 32))
+    (one (half-bit (x / 16)) (one (half-bit (x / 8)) (one (half-bit (x / 4)) (one (half-bit (x / 2)) (one (half-bit x) (recordBits-bits xs tail t))))))))
 
 pub six-bits : Bits sixZeros
 six-bits = let z : 0 < 2 = omega arith in one z (one z (one z (one z (one z (one z none)))))

@@ -8,7 +8,8 @@ use lib.ListN.{length, getD, take, set, length-set}
 use lib.Seq.{take-suc, take-suc-set}
 use Rattle.encoder.specs.Ccsds131.{out1, out2, register, nextState, code, run}
 
-take-set-two : {A : Type 0} (xs : List A) (t : ℕ) (a b : A) → 2 * t + 1 < length xs → take (2 * (t + 1)) (set (set xs (2 * t) a) (2 * t + 1) b) ≡ take (2 * t) xs ++ (a ∷ b ∷ [])
+take-set-two : {A : Type 0} (xs : List A) (t : ℕ) (a b : A) → 2 * t + 1 < length xs
+    → take (2 * (t + 1)) (set (set xs (2 * t) a) (2 * t + 1) b) ≡ take (2 * t) xs ++ (a ∷ b ∷ [])
 take-set-two {A} xs t a b h =
     let e : 2 * (t + 1) ≡ suc (2 * t + 1) = omega arith in
     let f : 2 * t + 1 ≡ suc (2 * t) = omega arith in
@@ -27,7 +28,8 @@ unfolding code run
 code-more s [] b = refl
 code-more s (x ∷ bs) b = ap (λ (l : List ℕ). out1 (register x s) ∷ out2 (register x s) ∷ l) (code-more (nextState x s) bs b)
 
-pub word-step : (bs coded : List ℕ) (t s r a b : ℕ) → t < length bs → 2 * t + 1 < length coded → s ≡ run 0 (take t bs) → r ≡ register (getD bs t 0) s → a ≡ out1 r → b ≡ out2 r
+pub word-step : (bs coded : List ℕ) (t s r a b : ℕ) → t < length bs → 2 * t + 1 < length coded → s ≡ run 0 (take t bs) → r ≡ register (getD bs t 0) s
+    → a ≡ out1 r → b ≡ out2 r
     → take (2 * t) coded ≡ code 0 (take t bs)
     → (r / 2 ≡ run 0 (take (t + 1) bs)) × (take (2 * (t + 1)) (set (set coded (2 * t) a) (2 * t + 1) b) ≡ code 0 (take (t + 1) bs))
 word-step bs coded t s r a b h k e f p q w =

@@ -1,8 +1,10 @@
--- A whole number beside a value: below 2 ^ (prec - 1), adding that power and taking it off again leaves one at most a half away (Step), and one comparison then says which whole number `floor` or `roundAway` asks for. Generic over the format.
+-- A whole number beside a value: below 2 ^ (prec - 1), adding that power and taking it off again leaves one at most a half away
+-- (Step), and one comparison then says which whole number `floor` or `roundAway` asks for. Generic over the format.
 use mathlib.Core.Path.{_≡_, refl, sym, ap, _∙_, subst}
 use mathlib.Core.Bool.{Bool, true, false, not, true≢false}
 use Prim.Native.Nat.{ℕ, zero, suc, _+_, _-_, _*_, _/_, _^_, _≤_, _<_}
-use native.Mathlib.Nat.{le-trans, le-of-eq, zero-lt-suc, mul-one, one-mul, zero-mul, mul-comm, mul-assoc, mul-right-comm, mul-left-comm, mul-pos, mul-le-mul-right, mul-lt-mul-of-pos-right, le-of-mul-le-mul-right, lt-of-mul-lt-mul-right, div-eq-of-lt-le, add-mul}
+use native.Mathlib.Nat.{le-trans, le-of-eq, zero-lt-suc, mul-one, one-mul, zero-mul, mul-comm, mul-assoc, mul-right-comm, mul-left-comm, mul-pos}
+use native.Mathlib.Nat.{mul-le-mul-right, mul-lt-mul-of-pos-right, le-of-mul-le-mul-right, lt-of-mul-lt-mul-right, div-eq-of-lt-le, add-mul}
 use native.Mathlib.Omega.{arith}
 use lib.IntN.{ℤ}
 use lib.Dec.{T, ltb, leb, ltb→lt, nltb→le, leb→le, nleb→lt, lit≤, lit<}
@@ -57,7 +59,11 @@ record Beside (f : Format) (y : Float) (a c : ℕ) : Type 0 where
   pub not-less : a * 2 ≤ q * c * 2 + c
 
 power-value : (f : Format) → HasValue (two-to (prec f - 1)) false (2 ^ (prec f - 1 + low f)) (2 ^ low f)
-power-value f = (refl, ap (λ (z : ℕ). z * 2 ^ low f) (one-mul (2 ^ (prec f - 1))) ∙ sym (pow-add 2 (prec f - 1) (low f)) ∙ sym (mul-one (2 ^ (prec f - 1 + low f))))
+power-value f = (
+  refl,
+  ap (λ (z : ℕ). z * 2 ^ low f) (one-mul (2 ^ (prec f - 1))) ∙ sym (pow-add 2 (prec f - 1) (low f))
+      ∙ sym (mul-one (2 ^ (prec f - 1 + low f))),
+)
 
 has-room : (f : Format) → prec f + low f < low f + suc (emax f)
 has-room binary32 = lit< tt
@@ -78,13 +84,16 @@ beside f m e t h =
     let small : n < 2 ^ (prec f - 1 + low f) =
     lt-of-mul-lt-mul-right c
     (subst (λ (z : ℕ). z < 2 ^ (prec f - 1 + low f) * c) E
-    (subst (λ (z : ℕ). a * b < z) (mul-right-comm (2 ^ (prec f - 1)) c b ∙ ap (λ (z : ℕ). z * c) (sym (pow-add 2 (prec f - 1) (low f)))) (mul-lt-mul-of-pos-right (h .1) B))) in
+    (subst (λ (z : ℕ). a * b < z) (mul-right-comm (2 ^ (prec f - 1)) c b ∙ ap (λ (z : ℕ). z * c) (sym (pow-add 2 (prec f - 1) (low f))))
+    (mul-lt-mul-of-pos-right (h .1) B))) in
     let q = closest n b in
-    let w : HasValue (nearWhole f (fin false m e)) false (q * b) b = on-and-off f n (low f) small (has-room f) (fin false m e) (two-to (prec f - 1)) v (power-value f) in
+    let w : HasValue (nearWhole f (fin false m e)) false (q * b) b =
+    on-and-off f n (low f) small (has-room f) (fin false m e) (two-to (prec f - 1)) v (power-value f) in
     let half : Half q n b = closest-error n b B in
     let qs : q * b * 2 * c ≡ q * c * 2 * b = simp (mul-assoc, mul-comm, mul-left-comm) in
     let ns : n * 2 * c ≡ a * 2 * b = mul-right-comm n 2 c ∙ ap (λ (z : ℕ). z * 2) (sym E) ∙ mul-right-comm a b 2 in
-    let more : (x y : ℕ) → x * c ≡ y * b → (x + b) * c ≡ (y + c) * b = (λ x y p. add-mul x b c ∙ ap (λ (z : ℕ). z + b * c) p ∙ ap (λ (z : ℕ). y * b + z) (mul-comm b c) ∙ sym (add-mul y c b)) in
+    let more : (x y : ℕ) → x * c ≡ y * b → (x + b) * c ≡ (y + c) * b =
+    (λ x y p. add-mul x b c ∙ ap (λ (z : ℕ). z + b * c) p ∙ ap (λ (z : ℕ). y * b + z) (mul-comm b c) ∙ sym (add-mul y c b)) in
     record {
       q = q;
       value = value-rescale (nearWhole f (fin false m e)) false (q * b) b q 1 B (mul-one (q * b)) w;
@@ -132,12 +141,14 @@ module _ (f : Format) (m : ℕ) (e : ℤ) (t : T (fits f (fin false m e))) (h : 
   above : (b : Bool) → lt (fin false m e) (nearWhole f (fin false m e)) ≡ b → ltb (m * up e) (beside f m e t h .q * down e) ≡ b
   above b p =
       let r = beside f m e t h in
-      sym (lt-at (fin false m e) (nearWhole f (fin false m e)) false false (m * up e) (r .q * down e) (down e) (down-pos e) (refl, refl) (near-over f (fin false m e) (r .q) (down e) (r .value))) ∙ p
+      sym (lt-at (fin false m e) (nearWhole f (fin false m e)) false false (m * up e) (r .q * down e) (down e) (down-pos e) (refl, refl)
+      (near-over f (fin false m e) (r .q) (down e) (r .value))) ∙ p
 
   beneath : (b : Bool) → lt (nearWhole f (fin false m e)) (fin false m e) ≡ b → ltb (beside f m e t h .q * down e) (m * up e) ≡ b
   beneath b p =
       let r = beside f m e t h in
-      sym (lt-at (nearWhole f (fin false m e)) (fin false m e) false false (r .q * down e) (m * up e) (down e) (down-pos e) (near-over f (fin false m e) (r .q) (down e) (r .value)) (refl, refl)) ∙ p
+      sym (lt-at (nearWhole f (fin false m e)) (fin false m e) false false (r .q * down e) (m * up e) (down e) (down-pos e)
+      (near-over f (fin false m e) (r .q) (down e) (r .value)) (refl, refl)) ∙ p
 
 -- y has the sign clear and is below 2 ^ (prec - 1)
 pub floor-less : (f : Format) (y : Float) → T (fits f y) → Under (prec f - 1) y → lt y (nearWhole f y) ≡ true → sub f (nearWhole f y) (two-to 0) ≡ floor f y
@@ -148,7 +159,8 @@ floor-less f (fin true m e) t h p = absurd (true≢false (h .0))
 floor-less f (fin false m e) t h p =
     let r = beside f m e t h in
     let l : m * up e < r .q * down e = ltb→lt (m * up e) (r .q * down e) (known (above f m e t h true p)) in
-    near-less f (fin false m e) (r .q) (not-none (r .q) (down e) (m * up e) l) (r .value) ∙ ap (λ (z : ℕ). round f false z 1) (sym (under-near (m * up e) (down e) (r .q) l (r .not-more)))
+    near-less f (fin false m e) (r .q) (not-none (r .q) (down e) (m * up e) l) (r .value)
+    ∙ ap (λ (z : ℕ). round f false z 1) (sym (under-near (m * up e) (down e) (r .q) l (r .not-more)))
 
 pub floor-near : (f : Format) (y : Float) → T (fits f y) → Under (prec f - 1) y → lt y (nearWhole f y) ≡ false → nearWhole f y ≡ floor f y
 unfolding floor
@@ -160,7 +172,8 @@ floor-near f (fin false m e) t h p =
     let l : r .q * down e ≤ m * up e = nltb→le (m * up e) (r .q * down e) (known-not (above f m e t h false p)) in
     near-is f (fin false m e) (r .q) (r .value) ∙ ap (λ (z : ℕ). round f false z 1) (sym (at-near (m * up e) (down e) (r .q) (down-pos e) l (r .not-less)))
 
-pub floor-neg-more : (f : Format) (y : Float) → T (fits f y) → Under (prec f - 1) y → lt (nearWhole f y) y ≡ true → neg (add f (nearWhole f y) (two-to 0)) ≡ floor f (neg y)
+pub floor-neg-more : (f : Format) (y : Float) → T (fits f y) → Under (prec f - 1) y → lt (nearWhole f y) y ≡ true
+    → neg (add f (nearWhole f y) (two-to 0)) ≡ floor f (neg y)
 unfolding floor neg
 floor-neg-more f nan t h p = absurd h
 floor-neg-more f (inf s) t h p = absurd h
@@ -207,7 +220,8 @@ module _ (f : Format) (m : ℕ) (e : ℤ) (q : ℕ) (u : m * up e < 2 ^ (prec f 
   sum-value l = value-scale (round f false (q * 2 + 1) 2) false (q * 2 + 1) 2 (down e) (exact-at f false (q * 2 + 1) 1 (has-half f) l)
 
   own-value : HasValue (fin false m e) false (m * up e * 2) (2 * down e)
-  own-value = subst (λ (z : ℕ). HasValue (fin false m e) false (m * up e * 2) z) (mul-comm (down e) 2) (value-scale (fin false m e) false (m * up e) (down e) 2 (refl, refl))
+  own-value = subst (λ (z : ℕ). HasValue (fin false m e) false (m * up e * 2) z) (mul-comm (down e) 2)
+      (value-scale (fin false m e) false (m * up e) (down e) 2 (refl, refl))
 
   both-pos : 0 < 2 * down e
   both-pos = mul-pos (zero-lt-suc 1) (down-pos e)
@@ -226,19 +240,25 @@ module _ (f : Format) (m : ℕ) (e : ℤ) (q : ℕ) (u : m * up e < 2 ^ (prec f 
   half-below p = go (leb (q * 2 + 1) (2 ^ prec f)) (leb→le (q * 2 + 1) (2 ^ prec f)) (nleb→lt (q * 2 + 1) (2 ^ prec f))
     where
       go : (b : Bool) → (T b → q * 2 + 1 ≤ 2 ^ prec f) → (T (not b) → 2 ^ prec f < q * 2 + 1) → (q * 2 + 1) * down e ≤ m * up e * 2
-      go true l r = at-most (round f false (q * 2 + 1) 2) (fin false m e) ((q * 2 + 1) * down e) (m * up e * 2) (2 * down e) both-pos (sum-value (l tt)) own-value p
+      go true l r = at-most (round f false (q * 2 + 1) 2) (fin false m e) ((q * 2 + 1) * down e) (m * up e * 2) (2 * down e) both-pos
+          (sum-value (l tt)) own-value p
       go false l r =
-          let k : 2 ^ (prec f - 1) * down e ≤ m * up e = at-most (two-to (prec f - 1)) (fin false m e) (2 ^ (prec f - 1) * down e) (m * up e) (down e) (down-pos e) power-over (refl, refl) (subst (λ (z : Float). T (le z (fin false m e))) (top-sum (at-top (r tt))) p) in
+          let k : 2 ^ (prec f - 1) * down e ≤ m * up e =
+          at-most (two-to (prec f - 1)) (fin false m e) (2 ^ (prec f - 1) * down e) (m * up e) (down e) (down-pos e) power-over (refl, refl)
+          (subst (λ (z : Float). T (le z (fin false m e))) (top-sum (at-top (r tt))) p) in
           absurd (omega arith)
 
   half-above : T (not (le (round f false (q * 2 + 1) 2) (fin false m e))) → m * up e * 2 < (q * 2 + 1) * down e
   half-above p = go (leb (q * 2 + 1) (2 ^ prec f)) (leb→le (q * 2 + 1) (2 ^ prec f)) (nleb→lt (q * 2 + 1) (2 ^ prec f))
     where
       go : (b : Bool) → (T b → q * 2 + 1 ≤ 2 ^ prec f) → (T (not b) → 2 ^ prec f < q * 2 + 1) → m * up e * 2 < (q * 2 + 1) * down e
-      go true l r = not-at-most (round f false (q * 2 + 1) 2) (fin false m e) ((q * 2 + 1) * down e) (m * up e * 2) (2 * down e) both-pos (sum-value (l tt)) own-value p
+      go true l r = not-at-most (round f false (q * 2 + 1) 2) (fin false m e) ((q * 2 + 1) * down e) (m * up e * 2) (2 * down e) both-pos
+          (sum-value (l tt)) own-value p
       go false l r =
           let k : q * down e ≡ 2 ^ (prec f - 1) * down e = ap (λ (z : ℕ). z * down e) (at-top (r tt)) in
-          let d : (q * 2 + 1) * down e ≡ q * down e * 2 + down e = add-mul (q * 2) 1 (down e) ∙ ap (λ (z : ℕ). z + 1 * down e) (mul-right-comm q 2 (down e)) ∙ ap (λ (z : ℕ). q * down e * 2 + z) (one-mul (down e)) in
+          let d : (q * 2 + 1) * down e ≡ q * down e * 2 + down e =
+          add-mul (q * 2) 1 (down e) ∙ ap (λ (z : ℕ). z + 1 * down e) (mul-right-comm q 2 (down e))
+          ∙ ap (λ (z : ℕ). q * down e * 2 + z) (one-mul (down e)) in
           omega arith
 
 twice-one : (q c : ℕ) → (q * 2 + 1) * c ≡ q * c * 2 + c
@@ -258,14 +278,16 @@ half-stays a c q C h k =
     let e2 : q * (c * 2) ≡ q * c * 2 = sym (mul-assoc q c 2) in
     div-eq-of-lt-le (c * 2) (omega arith) (omega arith)
 
-pub half-more : (f : Format) (y : Float) → T (fits f y) → Under (prec f - 1) y → le (add f (nearWhole f y) half) y ≡ true → add f (nearWhole f y) (two-to 0) ≡ roundAway f y
+pub half-more : (f : Format) (y : Float) → T (fits f y) → Under (prec f - 1) y → le (add f (nearWhole f y) half) y ≡ true
+    → add f (nearWhole f y) (two-to 0) ≡ roundAway f y
 unfolding roundAway
 half-more f nan t h p = absurd h
 half-more f (inf s) t h p = absurd h
 half-more f (fin true m e) t h p = absurd (true≢false (h .0))
 half-more f (fin false m e) t h p =
     let r = beside f m e t h in
-    let l = half-below f m e (r .q) (h .1) (r .top) (known (ap (λ (z : Float). le z (fin false m e)) (sym (half-sum f (fin false m e) (r .q) (r .value))) ∙ p)) in
+    let l = half-below f m e (r .q) (h .1) (r .top)
+    (known (ap (λ (z : Float). le z (fin false m e)) (sym (half-sum f (fin false m e) (r .q) (r .value))) ∙ p)) in
     near-more f (fin false m e) (r .q) (r .value) ∙ ap (λ (z : ℕ). round f false z 1) (sym (half-up (m * up e) (down e) (r .q) (down-pos e) l (r .not-less)))
 
 pub half-near : (f : Format) (y : Float) → T (fits f y) → Under (prec f - 1) y → le (add f (nearWhole f y) half) y ≡ false → nearWhole f y ≡ roundAway f y
@@ -275,5 +297,6 @@ half-near f (inf s) t h p = absurd h
 half-near f (fin true m e) t h p = absurd (true≢false (h .0))
 half-near f (fin false m e) t h p =
     let r = beside f m e t h in
-    let l = half-above f m e (r .q) (h .1) (r .top) (known-not (ap (λ (z : Float). le z (fin false m e)) (sym (half-sum f (fin false m e) (r .q) (r .value))) ∙ p)) in
+    let l = half-above f m e (r .q) (h .1) (r .top)
+    (known-not (ap (λ (z : Float). le z (fin false m e)) (sym (half-sum f (fin false m e) (r .q) (r .value))) ∙ p)) in
     near-is f (fin false m e) (r .q) (r .value) ∙ ap (λ (z : ℕ). round f false z 1) (sym (half-stays (m * up e) (down e) (r .q) (down-pos e) l (r .not-more)))

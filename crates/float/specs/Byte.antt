@@ -26,8 +26,10 @@ range x = go (lt zero+ x) (lt x (natural 255)) refl refl
   where
     go : (p q : Bool) → lt zero+ x ≡ p → lt x (natural 255) ≡ q → Range x
     go false q e g = low (known-not e) (ap (λ (b : Bool). cond (lt (cond b x zero+) (natural 255)) (cond b x zero+) (natural 255)) e)
-    go true true e g = mid (known e) (known g) (ap (λ (b : Bool). cond (lt (cond b x zero+) (natural 255)) (cond b x zero+) (natural 255)) e ∙ ap (λ (b : Bool). cond b x (natural 255)) g)
-    go true false e g = high (known e) (known-not g) (ap (λ (b : Bool). cond (lt (cond b x zero+) (natural 255)) (cond b x zero+) (natural 255)) e ∙ ap (λ (b : Bool). cond b x (natural 255)) g)
+    go true true e g = mid (known e) (known g)
+        (ap (λ (b : Bool). cond (lt (cond b x zero+) (natural 255)) (cond b x zero+) (natural 255)) e ∙ ap (λ (b : Bool). cond b x (natural 255)) g)
+    go true false e g = high (known e) (known-not g)
+        (ap (λ (b : Bool). cond (lt (cond b x zero+) (natural 255)) (cond b x zero+) (natural 255)) e ∙ ap (λ (b : Bool). cond b x (natural 255)) g)
 
 -- ---- in the range a value is at most 255, and so is the whole number that it is rounded to
 
@@ -43,7 +45,8 @@ small-fin m e t l = record {
   under = (refl, lt-of-lt-of-le l (mul-le-mul-right (down e) (lit≤ tt)));
   byte =
       let b : halfAway (m * up e) (down e) ≤ 255 = half-rule .small (m * up e) (down e) 255 (down-pos e) l in
-      value-byte binary32 8 (roundAway binary32 (fin false m e)) (halfAway (m * up e) (down e)) (roundAway-value binary32 false m e t) (lt-of-le-of-lt b (lit< tt)) (le-trans b (lit≤ tt)) .0;
+      value-byte binary32 8 (roundAway binary32 (fin false m e)) (halfAway (m * up e) (down e)) (roundAway-value binary32 false m e t)
+      (lt-of-le-of-lt b (lit< tt)) (le-trans b (lit≤ tt)) .0;
 }
 
 small-mid : (x : Float) → T (fits binary32 x) → T (lt zero+ x) → T (lt x (natural 255)) → Small x
@@ -96,7 +99,8 @@ low-byte (fin false m e) t p =
     let z : 0 * 1 * down e ≡ 0 = zero-mul (down e) in
     let a : m * up e ≡ 0 * down e = (let y : 0 * down e ≡ 0 = zero-mul (down e) in let r : m * up e ≡ 0 * down e = omega arith in r) in
     let h : halfAway (m * up e) (down e) ≡ 0 = ap (λ (n : ℕ). halfAway n (down e)) a ∙ half-rule .stays 0 (down e) (down-pos e) in
-    value-byte binary32 8 (roundAway binary32 (fin false m e)) 0 (subst (λ (n : ℕ). HasValue (roundAway binary32 (fin false m e)) false n 1) h (roundAway-value binary32 false m e t)) (lit< tt) (lit≤ tt) .1
+    value-byte binary32 8 (roundAway binary32 (fin false m e)) 0
+    (subst (λ (n : ℕ). HasValue (roundAway binary32 (fin false m e)) false n 1) h (roundAway-value binary32 false m e t)) (lit< tt) (lit≤ tt) .1
 
 high-byte : (x : Float) → T (fits binary32 x) → T (lt zero+ x) → T (not (lt x (natural 255))) → toUnsigned 8 (roundAway binary32 x) ≡ 255
 unfolding lt toUnsigned

@@ -1,5 +1,7 @@
--- What Rust's calls on floats give, for every value of a format: rounding down, up and to the nearest with a half going away from zero, narrowing to another format, absolute value, the smaller and the larger of two.
--- A finite value is ±m * 2 ^ e, the fraction m * up e / down e, and `round f s a c` is the value of the format f nearest to ±a / c, a tie going to the even one. Definitions only.
+-- What Rust's calls on floats give, for every value of a format: rounding down, up and to the nearest with a half going away
+-- from zero, narrowing to another format, absolute value, the smaller and the larger of two.
+-- A finite value is ±m * 2 ^ e, the fraction m * up e / down e, and `round f s a c` is the value of the format f nearest to ±a
+-- / c, a tie going to the even one. Definitions only.
 use mathlib.Core.Path.{_≡_}
 use mathlib.Core.Bool.{Bool, true, false, _&&_, cond}
 use Prim.Native.Nat.{ℕ, _+_, _-_, _*_, _/_, _^_, _<_}

@@ -4,7 +4,9 @@ use mathlib.Core.Path.{_≡_, refl, sym, ap, _∙_, subst}
 use mathlib.Core.Logic.{_⊎_, inl, inr}
 use mathlib.Core.Bool.{Bool, true, false, not, _&&_, _||_, Bool·beq, cond}
 use Prim.Native.Nat.{ℕ, zero, suc, _+_, _-_, _*_, _%_, _^_, _≤_, _<_}
-use native.Mathlib.Nat.{le-of-eq, le-of-lt, lt-of-not-le, eq-or-lt-of-le, lt-irrefl, zero-lt-suc, zero-mul, mul-one, one-mul, mul-comm, mul-assoc, mul-left-comm, mul-right-comm, add-mul, mul-pos, mul-lt-mul-of-pos-right, lt-of-mul-lt-mul-right, eq-of-mul-eq-mul-right, pow-succ', pow-suc, mul-sub}
+use native.Mathlib.Nat.{le-of-eq, le-of-lt, lt-of-not-le, eq-or-lt-of-le, lt-irrefl, zero-lt-suc, zero-mul, mul-one, one-mul, mul-comm, mul-assoc}
+use native.Mathlib.Nat.{mul-left-comm, mul-right-comm, add-mul, mul-pos, mul-lt-mul-of-pos-right, lt-of-mul-lt-mul-right, eq-of-mul-eq-mul-right}
+use native.Mathlib.Nat.{pow-succ', pow-suc, mul-sub}
 use native.Mathlib.Omega.{arith}
 use lib.IntN.{ℤ, pos, negsuc}
 use lib.Dec.{T, T-not, ltb, leb, eqb, lt→ltb, ltb→lt, eqb→eq}
@@ -71,7 +73,8 @@ same-exp (negsuc a) (negsuc b) h = let k : a ≡ b = omega arith in ap negsuc k
 
 pub value→zero : (s : Bool) (e : ℤ) (a c : ℕ) → 0 * up e * c ≡ a * down e → a ≡ 0
 value→zero s e zero c h = refl
-value→zero s e (suc a) c h = absurd (lt-irrefl 0 (subst (λ (x : ℕ). 0 < x) (sym h ∙ ap (λ (y : ℕ). y * c) (zero-mul (up e)) ∙ zero-mul c) (mul-pos (zero-lt-suc a) (down-pos e))))
+value→zero s e (suc a) c h =
+    absurd (lt-irrefl 0 (subst (λ (x : ℕ). 0 < x) (sym h ∙ ap (λ (y : ℕ). y * c) (zero-mul (up e)) ∙ zero-mul c) (mul-pos (zero-lt-suc a) (down-pos e))))
 
 not-zero : (m : ℕ) (e : ℤ) (c : ℕ) → 0 < c → suc m * up e * c ≡ 0 * down e → ⊥
 not-zero m e c C h = lt-irrefl 0 (subst (λ (x : ℕ). 0 < x) (h ∙ zero-mul (down e)) (mul-pos (mul-pos (zero-lt-suc m) (up-pos e)) C))
@@ -167,11 +170,16 @@ add-across A B C a b c p q = add-mul A B c ∙ ap (λ (z : ℕ). z + B * c) p �
 pub same-sum : (f : Format) (s : Bool) (A : ℕ) (t : Bool) (B C a b c : ℕ) → 0 < C → 0 < c → A * c ≡ a * C → B * c ≡ b * C → sum f s A t B C ≡ sum f s a t b c
 unfolding sum
 same-sum f s A t B C a b c D d p q =
-    ap (λ (z : Float). cond (Bool·beq s t) z (cond (ltb A B) (round f t (B - A) C) (round f (s && ltb B A) (A - B) C))) (round-same f s (A + B) C (a + b) c D d (add-across A B C a b c p q))
-    ∙ ap (λ (z : Float). cond (Bool·beq s t) (round f s (a + b) c) (cond (ltb A B) z (round f (s && ltb B A) (A - B) C))) (round-same f t (B - A) C (b - a) c D d (sub-across B A C b a c q p))
-    ∙ ap (λ (z : Float). cond (Bool·beq s t) (round f s (a + b) c) (cond (ltb A B) (round f t (b - a) c) z)) (round-same f (s && ltb B A) (A - B) C (a - b) c D d (sub-across A B C a b c p q))
-    ∙ ap (λ (z : Bool). cond (Bool·beq s t) (round f s (a + b) c) (cond z (round f t (b - a) c) (round f (s && ltb B A) (a - b) c))) (same-ltb A B C a b c D d p q)
-    ∙ ap (λ (z : Bool). cond (Bool·beq s t) (round f s (a + b) c) (cond (ltb a b) (round f t (b - a) c) (round f (s && z) (a - b) c))) (same-ltb B A C b a c D d q p)
+    ap (λ (z : Float). cond (Bool·beq s t) z (cond (ltb A B) (round f t (B - A) C) (round f (s && ltb B A) (A - B) C)))
+    (round-same f s (A + B) C (a + b) c D d (add-across A B C a b c p q))
+    ∙ ap (λ (z : Float). cond (Bool·beq s t) (round f s (a + b) c) (cond (ltb A B) z (round f (s && ltb B A) (A - B) C)))
+    (round-same f t (B - A) C (b - a) c D d (sub-across B A C b a c q p))
+    ∙ ap (λ (z : Float). cond (Bool·beq s t) (round f s (a + b) c) (cond (ltb A B) (round f t (b - a) c) z))
+    (round-same f (s && ltb B A) (A - B) C (a - b) c D d (sub-across A B C a b c p q))
+    ∙ ap (λ (z : Bool). cond (Bool·beq s t) (round f s (a + b) c) (cond z (round f t (b - a) c) (round f (s && ltb B A) (a - b) c)))
+    (same-ltb A B C a b c D d p q)
+    ∙ ap (λ (z : Bool). cond (Bool·beq s t) (round f s (a + b) c) (cond (ltb a b) (round f t (b - a) c) (round f (s && z) (a - b) c)))
+    (same-ltb B A C b a c D d q p)
 
 -- M / E is a / c, so M * D / (E * D) is a / c
 left-of : (M D E a c : ℕ) → M * c ≡ a * E → M * D * c ≡ a * (E * D)
@@ -264,10 +272,13 @@ test-le : (a b : ℕ) → T (below false a false b || level false a false b) →
 test-le a b t = elim (or-split (ltb a b) (level false a false b) t) [ inl u ↦ le-of-lt (ltb→lt a b u) | inr u ↦ le-of-eq (eqb→eq a b (and-l (eqb a b) true u)) ]
 
 le-test : (a b : ℕ) → a ≤ b → T (below false a false b || level false a false b)
-le-test a b h = elim (eq-or-lt-of-le h) [ inl e ↦ or-r (ltb a b) (level false a false b) (and-i (eqb a b) true (eq→eqb e) tt) | inr l ↦ or-l (ltb a b) (level false a false b) (lt→ltb a b l) ]
+le-test a b h = elim (eq-or-lt-of-le h)
+    [ inl e ↦ or-r (ltb a b) (level false a false b) (and-i (eqb a b) true (eq→eqb e) tt) | inr l ↦ or-l (ltb a b) (level false a false b) (lt→ltb a b l) ]
 
 pub at-most : (x y : Float) (a b c : ℕ) → 0 < c → HasValue x false a c → HasValue y false b c → T (le x y) → a ≤ b
 at-most x y a b c C h k t = test-le a b (subst T (le-at x y false false a b c C h k) t)
 
 pub not-at-most : (x y : Float) (a b c : ℕ) → 0 < c → HasValue x false a c → HasValue y false b c → T (not (le x y)) → b < a
-not-at-most x y a b c C h k t = lt-of-not-le (λ (l : a ≤ b). T-not (below false a false b || level false a false b) (subst (λ (z : Bool). T (not z)) (le-at x y false false a b c C h k) t) (le-test a b l))
+not-at-most x y a b c C h k t =
+    lt-of-not-le (λ (l : a ≤ b). T-not (below false a false b || level false a false b)
+    (subst (λ (z : Bool). T (not z)) (le-at x y false false a b c C h k) t) (le-test a b l))

@@ -22,7 +22,8 @@ over-neg a h g = omega arith
 
 -- 2 ^ h ≤ a / c, from the fraction's test
 reaches : (m : ℕ) (e : ℤ) (h : ℕ) → 1 * 2 ^ h * down e ≤ m * up e * 1 → 2 ^ h ≤ m * up e / down e
-reaches m e h g = le-div-iff-mul-le (down-pos e) .1 (le-trans (le-of-eq (ap (λ (z : ℕ). z * down e) (sym (one-mul (2 ^ h))))) (le-trans g (le-of-eq (mul-one (m * up e)))))
+reaches m e h g = le-div-iff-mul-le (down-pos e) .1
+    (le-trans (le-of-eq (ap (λ (z : ℕ). z * down e) (sym (one-mul (2 ^ h))))) (le-trans g (le-of-eq (mul-one (m * up e)))))
 
 positive-top : (h : ℕ) (e : ℤ) → 0 < 1 * 2 ^ h * down e
 positive-top h e = mul-pos (subst (λ (z : ℕ). 0 < z) (sym (one-mul (2 ^ h))) (pow-pos h)) (down-pos e)
@@ -45,11 +46,14 @@ too-small h nan p q = absurd p
 too-small h (inf true) p q = refl
 too-small h (inf false) p q = absurd p
 too-small h (fin false m e) p q =
-    let z : 1 * 2 ^ h * down e + m * up e * 1 ≤ 0 = nltb→le 0 (1 * 2 ^ h * down e + m * up e * 1) (nor-l (ltb 0 (1 * 2 ^ h * down e + m * up e * 1)) (level true (1 * 2 ^ h * down e) false (m * up e * 1)) q) in
+    let z : 1 * 2 ^ h * down e + m * up e * 1 ≤ 0 =
+    nltb→le 0 (1 * 2 ^ h * down e + m * up e * 1)
+    (nor-l (ltb 0 (1 * 2 ^ h * down e + m * up e * 1)) (level true (1 * 2 ^ h * down e) false (m * up e * 1)) q) in
     let w : 0 < 1 * 2 ^ h * down e = positive-top h e in
     absurd (omega arith)
 too-small h (fin true m e) p q =
-    let z : 1 * 2 ^ h * down e ≤ m * up e * 1 = nltb→le (m * up e * 1) (1 * 2 ^ h * down e) (nor-l (ltb (m * up e * 1) (1 * 2 ^ h * down e)) (level true (1 * 2 ^ h * down e) true (m * up e * 1)) q) in
+    let z : 1 * 2 ^ h * down e ≤ m * up e * 1 =
+    nltb→le (m * up e * 1) (1 * 2 ^ h * down e) (nor-l (ltb (m * up e * 1) (1 * 2 ^ h * down e)) (level true (1 * 2 ^ h * down e) true (m * up e * 1)) q) in
     ap (λ (k : ℕ). negℤ (pos k)) (over-neg (m * up e / down e) h (reaches m e h z))
 
 pub neither : (h : ℕ) (x : Float) → T (not (lt x (two-to h))) → T (not (lt zero+ x)) → toSigned h x ≡ pos 0

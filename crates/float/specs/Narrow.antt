@@ -1,16 +1,20 @@
--- An f64 `as` an f32. In units of binary64's smallest value, 2 ^ -1074, an f32 of x's size is a multiple of 2 ^ k of them for some k, and `narrow` rounds x to the nearest such multiple, as adding 2 ^ (52 + k) units and taking them off does (Step).
+-- An f64 `as` an f32. In units of binary64's smallest value, 2 ^ -1074, an f32 of x's size is a multiple of 2 ^ k of them for
+-- some k, and `narrow` rounds x to the nearest such multiple, as adding 2 ^ (52 + k) units and taking them off does (Step).
 -- The exponent's field of x's bit pattern gives k, or 897 the least k, that of the subnormals.
 use mathlib.Core.Path.{_≡_, refl, sym, ap, _∙_, subst}
 use mathlib.Core.Logic.{inl, inr}
 use mathlib.Core.Bool.{Bool, true, false, not, _&&_}
 use Prim.Native.Nat.{ℕ, zero, suc, _+_, _-_, _*_, _/_, _%_, _^_, _≤_, _<_, max}
-use native.Mathlib.Nat.{zero-add, lt-of-mul-lt-mul-right, le-of-mul-le-mul-right, le-trans, le-of-eq, lt-of-lt-of-le, lt-of-le-of-lt, le-antisymm, zero-lt-suc, zero-mul, mul-one, mul-comm, mul-assoc, mul-right-comm, mul-pos, mul-lt-mul-of-pos-right, mul-div-cancel, div-one, div-eq-of-lt, mod-eq-of-lt, mul-mod-left, le-div-iff-mul-le, mul-add-div-right, mul-div-mul-right}
+use native.Mathlib.Nat.{zero-add, lt-of-mul-lt-mul-right, le-of-mul-le-mul-right, le-trans, le-of-eq, lt-of-lt-of-le, lt-of-le-of-lt, le-antisymm}
+use native.Mathlib.Nat.{zero-lt-suc, zero-mul, mul-one, mul-comm, mul-assoc, mul-right-comm, mul-pos, mul-lt-mul-of-pos-right, mul-div-cancel}
+use native.Mathlib.Nat.{div-one, div-eq-of-lt, mod-eq-of-lt, mul-mod-left, le-div-iff-mul-le, mul-add-div-right, mul-div-mul-right}
 use native.Mathlib.Omega.{arith}
 use lib.IntN.{ℤ}
 use lib.Dec.{T, ltb, leb, eqb, ltb→lt, lt→ltb, nltb→le, eqb→eq, lit<, T-not, not-T}
 use lib.Arith.{lt→nleb, le→nltb}
 use lib.Pow.{pow-add, pow-pos, pow-mono, shr-lt}
-use lib.Ieee.{Float, le, eq, nan, inf, fin, binary32, binary64, up, down, size, odd, units, round, neg, add, sub, lt, fits, isNan, ofFields, ofBits, toBits, nanBits}
+use lib.Ieee.{Float, le, eq, nan, inf, fin, binary32, binary64, up, down, size, odd, units, round, neg, add, sub, lt, fits, isNan, ofFields, ofBits}
+use lib.Ieee.{toBits, nanBits}
 use lib.Ieee.Digits.{size-lt, size-le, size-reaches}
 use lib.Ieee.Fits.{and-i, and-l, eq→eqb, up-pos, down-pos, round-is, round-fits, sub-fits, fits-widens, core}
 use lib.Ieee.Exact.{HasValue, odd-sign, units-val}
@@ -55,7 +59,9 @@ size-shift n d = le-antisymm upper (go (ltb d (size n)) (ltb→lt d (size n)) (n
     go : (b : Bool) → (T b → d < size n) → (T (not b) → size n ≤ d) → size n - d ≤ size (n / 2 ^ d)
     go true p q =
         past (size n) d (size (n / 2 ^ d)) (p tt)
-        (size-gt (n / 2 ^ d) (size n - d - 1) (le-div-iff-mul-le (pow-pos d) .1 (le-trans (le-of-eq (sym (pow-add 2 (size n - d - 1) d))) (size-reaches n (size n - d - 1 + d) (pred-lt (size n) d (p tt))))))
+        (size-gt (n / 2 ^ d) (size n - d - 1)
+        (le-div-iff-mul-le (pow-pos d) .1
+        (le-trans (le-of-eq (sym (pow-add 2 (size n - d - 1) d))) (size-reaches n (size n - d - 1 + d) (pred-lt (size n) d (p tt))))))
     go false p q = le-trans (zero-off (size n) d (q tt)) Prim.Native.Nat.zero-le
 
 -- ---- binary32's rounding of n units
@@ -69,7 +75,8 @@ narrow-units s n =
     ∙ ap (λ (z : ℕ). core binary32 s (n * 2 ^ 149) (2 ^ 1074) z) k
     ∙ ap (λ (z : ℕ). units binary32 s z j)
     (closest-same (n * 2 ^ 149) (2 ^ 1074 * 2 ^ j) n (2 ^ (925 + j)) (mul-pos (pow-pos 1074) (pow-pos j)) (pow-pos (925 + j))
-    (ap (λ (z : ℕ). n * 2 ^ 149 * z) (pow-add 2 925 j) ∙ mul-assoc n (2 ^ 149) (2 ^ 925 * 2 ^ j) ∙ ap (λ (z : ℕ). n * z) (sym (mul-assoc (2 ^ 149) (2 ^ 925) (2 ^ j)))))
+    (ap (λ (z : ℕ). n * 2 ^ 149 * z) (pow-add 2 925 j) ∙ mul-assoc n (2 ^ 149) (2 ^ 925 * 2 ^ j)
+    ∙ ap (λ (z : ℕ). n * z) (sym (mul-assoc (2 ^ 149) (2 ^ 925) (2 ^ j)))))
 
 -- ---- the value so rounded is the f32, or is too large
 
@@ -91,9 +98,11 @@ module _ (n j : ℕ) (J : j ≡ size n - 925 - 24) where
   is-narrow y t v h =
       let q = closest n (2 ^ (925 + j)) in
       let z = round binary32 false n (2 ^ 1074) in
-      let w : HasValue z false (q * 2 ^ j) (2 ^ 149) = subst (λ (x : Float). HasValue x false (q * 2 ^ j) (2 ^ 149)) (sym units-are) (units-val binary32 false q j (under-top h)) in
+      let w : HasValue z false (q * 2 ^ j) (2 ^ 149) =
+      subst (λ (x : Float). HasValue x false (q * 2 ^ j) (2 ^ 149)) (sym units-are) (units-val binary32 false q j (under-top h)) in
       let u : HasValue z false (q * 2 ^ (925 + j)) (2 ^ 1074) =
-      value-rescale z false (q * 2 ^ j) (2 ^ 149) (q * 2 ^ (925 + j)) (2 ^ 1074) (pow-pos 149) (sym (ap (λ (x : ℕ). x * 2 ^ 149) (split-off q) ∙ mul-assoc (q * 2 ^ j) (2 ^ 925) (2 ^ 149))) w in
+      value-rescale z false (q * 2 ^ j) (2 ^ 149) (q * 2 ^ (925 + j)) (2 ^ 1074) (pow-pos 149)
+      (sym (ap (λ (x : ℕ). x * 2 ^ 149) (split-off q) ∙ mul-assoc (q * 2 ^ j) (2 ^ 925) (2 ^ 149))) w in
       value-unique binary64 y z false (q * 2 ^ (925 + j)) (2 ^ 1074) (pow-pos 1074) t (fits-widens z (round-fits binary32 false n (2 ^ 1074))) v u
 
   pub is-inf : 2 ^ 1202 ≤ closest n (2 ^ (925 + j)) * 2 ^ (925 + j) → round binary32 false n (2 ^ 1074) ≡ inf false
@@ -182,14 +191,16 @@ bounded z e l h = omega arith
 
 narrow-is : (m : ℕ) (e : ℤ) → Held binary64 m e → narrow (fin false m e) ≡ round binary32 false (inUnits binary64 (fin false m e)) (2 ^ 1074)
 unfolding narrow
-narrow-is m e h = round-same binary32 false (m * up e) (down e) (inUnits binary64 (fin false m e)) (2 ^ 1074) (down-pos e) (pow-pos 1074) (units-of binary64 false m e h .1)
+narrow-is m e h = round-same binary32 false (m * up e) (down e) (inUnits binary64 (fin false m e)) (2 ^ 1074) (down-pos e) (pow-pos 1074)
+    (units-of binary64 false m e h .1)
 
 top-units : (m : ℕ) (e : ℤ) → Held binary64 m e → m * up e * 1 < 1 * 2 ^ 128 * down e → inUnits binary64 (fin false m e) < 2 ^ 1202
 top-units m e h l =
     let v : m * up e * 2 ^ 1074 ≡ inUnits binary64 (fin false m e) * down e = units-of binary64 false m e h .1 in
     lt-of-mul-lt-mul-right (down e)
     (subst (λ (z : ℕ). z < 2 ^ 1202 * down e) v
-    (subst (λ (z : ℕ). m * up e * 2 ^ 1074 < z) (mul-right-comm (2 ^ 128) (down e) (2 ^ 1074)) (mul-lt-mul-of-pos-right (subst (λ (z : ℕ). z < 2 ^ 128 * down e) (mul-one (m * up e)) l) (pow-pos 1074))))
+    (subst (λ (z : ℕ). m * up e * 2 ^ 1074 < z) (mul-right-comm (2 ^ 128) (down e) (2 ^ 1074))
+    (mul-lt-mul-of-pos-right (subst (λ (z : ℕ). z < 2 ^ 128 * down e) (mul-one (m * up e)) l) (pow-pos 1074))))
 
 fits-and : (y z : Float) → T (fits binary32 z) → T (not (isNan y)) → y ≡ z → T (fits binary32 y && not (isNan y))
 fits-and y z t n e = and-i (fits binary32 y) (not (isNan y)) (subst (λ (w : Float). T (fits binary32 w)) (sym e) t) n
@@ -200,7 +211,8 @@ wider k = omega arith
 far : (k : ℕ) → k ≤ 1178 → 53 + k < 1074 + 1024
 far k h = omega arith
 
-in-range : (m : ℕ) (g : ℤ) (e : ℕ) → Held binary64 m g → m * up g * 1 < 1 * 2 ^ 128 * down g → e ≡ max (toBits binary64 (fin false m g) / 2 ^ 52) 897 → Narrowed (fin false m g) e
+in-range : (m : ℕ) (g : ℤ) (e : ℕ) → Held binary64 m g → m * up g * 1 < 1 * 2 ^ 128 * down g → e ≡ max (toBits binary64 (fin false m g) / 2 ^ 52) 897
+    → Narrowed (fin false m g) e
 in-range m g e h l E =
     let x = fin false m g in
     let n = inUnits binary64 x in
@@ -214,16 +226,21 @@ in-range m g e h l E =
     let nl : n < 2 ^ (24 + (925 + j)) = subst (λ (z : ℕ). n < 2 ^ (24 + z)) ke (lt-of-lt-of-le (size-lt n) (pow-mono (covers (size n) e E2))) in
     let K : 925 + j ≤ 1178 = subst (λ (z : ℕ). z ≤ 1178) ke (let z : e + 28 ≤ 1178 = omega arith in z) in
     let sk : suc (925 + j) ≡ e + 29 = ap suc (sym ke) ∙ (let z : suc (e + 28) ≡ e + 29 = omega arith in z) in
-    let mv : HasValue (stepOf e) false (2 ^ (52 + (925 + j))) U = subst (λ (z : ℕ). HasValue (ofBits binary64 (z * 2 ^ 52)) false (2 ^ (52 + (925 + j))) U) sk (of-field (925 + j) (lt-of-le-of-lt K (lit< tt))) in
+    let mv : HasValue (stepOf e) false (2 ^ (52 + (925 + j))) U =
+    subst (λ (z : ℕ). HasValue (ofBits binary64 (z * 2 ^ 52)) false (2 ^ (52 + (925 + j))) U) sk (of-field (925 + j) (lt-of-le-of-lt K (lit< tt))) in
     let q = closest n (2 ^ (925 + j)) in
-    let yv : HasValue (stepped x e) false (q * 2 ^ (925 + j)) U = on-and-off binary64 n (925 + j) (lt-of-lt-of-le nl (pow-mono (wider (925 + j)))) (far (925 + j) K) x (stepOf e) v mv in
-    let cmp : lt (stepped x e) (two-to 128) ≡ ltb (q * 2 ^ (925 + j)) (2 ^ 1202) = lt-at (stepped x e) (two-to 128) false false (q * 2 ^ (925 + j)) (2 ^ 1202) U (pow-pos 1074) yv (refl, refl) in
+    let yv : HasValue (stepped x e) false (q * 2 ^ (925 + j)) U =
+    on-and-off binary64 n (925 + j) (lt-of-lt-of-le nl (pow-mono (wider (925 + j)))) (far (925 + j) K) x (stepOf e) v mv in
+    let cmp : lt (stepped x e) (two-to 128) ≡ ltb (q * 2 ^ (925 + j)) (2 ^ 1202) =
+    lt-at (stepped x e) (two-to 128) false false (q * 2 ^ (925 + j)) (2 ^ 1202) U (pow-pos 1074) yv (refl, refl) in
     let is : lt (stepped x e) (two-to 128) ≡ true → stepped x e ≡ round binary32 false n U =
-    (λ t. is-narrow n j refl (stepped x e) (sub-fits binary64 (add binary64 x (stepOf e)) (stepOf e)) yv (ltb→lt (q * 2 ^ (925 + j)) (2 ^ 1202) (known (sym cmp ∙ t)))) in
+    (λ t. is-narrow n j refl (stepped x e) (sub-fits binary64 (add binary64 x (stepOf e)) (stepOf e)) yv
+    (ltb→lt (q * 2 ^ (925 + j)) (2 ^ 1202) (known (sym cmp ∙ t)))) in
     record {
       e-small = B;
       no-nan = subst (λ (z : Bool). T (not z)) (sym (nanBits-is binary64 ((e + 29) * 2 ^ 52))) (value-no-nan (stepOf e) false (2 ^ (52 + (925 + j))) U mv);
-      under-fits = λ t. fits-and (stepped x e) (round binary32 false n U) (round-fits binary32 false n U) (value-no-nan (stepped x e) false (q * 2 ^ (925 + j)) U yv) (is t);
+      under-fits = λ t. fits-and (stepped x e) (round binary32 false n U) (round-fits binary32 false n U)
+          (value-no-nan (stepped x e) false (q * 2 ^ (925 + j)) U yv) (is t);
       under-is = λ t. is t ∙ sym (narrow-is m g h);
       over-is = λ t. narrow-is m g h ∙ is-inf n j refl (nltb→le (q * 2 ^ (925 + j)) (2 ^ 1202) (known-not (sym cmp ∙ t)));
     }
@@ -246,11 +263,13 @@ narrow-large (inf false) p q = refl
 narrow-large (fin true m e) p q = absurd p
 narrow-large (fin false m e) p q =
     let l : 1 * 2 ^ 128 * down e ≤ m * up e * 1 = nltb→le (m * up e * 1) (1 * 2 ^ 128 * down e) q in
-    let t : T (le (round binary32 false (2 ^ 128) 1) (round binary32 false (m * up e) (down e))) = round-mono binary32 (2 ^ 128) 1 (m * up e) (down e) (zero-lt-suc 0) (down-pos e) l in
+    let t : T (le (round binary32 false (2 ^ 128) 1) (round binary32 false (m * up e) (down e))) =
+    round-mono binary32 (2 ^ 128) 1 (m * up e) (down e) (zero-lt-suc 0) (down-pos e) l in
     let i : round binary32 false (2 ^ 128) 1 ≡ inf false = (unfold round in refl) in
     elim (round-shape binary32 false (m * up e) (down e)) [
       | inl z ↦ z
-      | inr v ↦ absurd (inf-not-le (round binary32 false (m * up e) (down e)) (grid binary32 (m * up e) (down e)) (2 ^ 149) v (subst (λ (z : Float). T (le z (round binary32 false (m * up e) (down e)))) i t))
+      | inr v ↦ absurd (inf-not-le (round binary32 false (m * up e) (down e)) (grid binary32 (m * up e) (down e)) (2 ^ 149) v
+          (subst (λ (z : Float). T (le z (round binary32 false (m * up e) (down e)))) i t))
     ]
 
 zero-narrow : (s : Bool) (e : ℤ) → T (fits binary64 (fin s zero e)) → fin s zero e ≡ narrow (fin s zero e)
@@ -289,7 +308,8 @@ narrow-nan (fin s m e) p q r = absurd (none s m e (known-not p) (known-not q) (k
         let z : m * up e * 1 + 0 * 1 * down e ≤ 0 = nltb→le 0 (m * up e * 1 + 0 * 1 * down e) b in
         let w : 0 * 1 * down e ≡ 0 = zero-mul (down e) in
         T-not (eqb (m * up e * 1) (0 * 1 * down e) && eqb (m * up e * 1) 0) c
-        (and-i (eqb (m * up e * 1) (0 * 1 * down e)) (eqb (m * up e * 1) 0) (eq→eqb (let r : m * up e * 1 ≡ 0 * 1 * down e = omega arith in r)) (eq→eqb (let r : m * up e * 1 ≡ 0 = omega arith in r)))
+        (and-i (eqb (m * up e * 1) (0 * 1 * down e)) (eqb (m * up e * 1) 0) (eq→eqb (let r : m * up e * 1 ≡ 0 * 1 * down e = omega arith in r))
+        (eq→eqb (let r : m * up e * 1 ≡ 0 = omega arith in r)))
 
 pub above-turned : (x : Float) → T (lt x zero+) → T (lt zero+ (neg x))
 unfolding lt neg

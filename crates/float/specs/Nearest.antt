@@ -34,7 +34,8 @@ near w r b a Ordering·lt e l h = (omega arith, omega arith)
 near w r b a Ordering·eq e l h =
     let t1 : w % 2 ≤ 1 = omega arith in
     tie w (w % 2) b r a t1 (le-trans (mul-le-mul-right b t1) (le-of-eq (one-mul b))) e h (add-mul w (w % 2) b)
-near w r b a Ordering·gt e l h = let s : suc w * b ≡ b + w * b = native.Mathlib.Nat.suc-mul w b ∙ native.Mathlib.Nat.add-comm (w * b) b in (omega arith, omega arith)
+near w r b a Ordering·gt e l h = let s : suc w * b ≡ b + w * b = native.Mathlib.Nat.suc-mul w b ∙ native.Mathlib.Nat.add-comm (w * b) b in
+    (omega arith, omega arith)
 
 pub closest-error : (a b : ℕ) → 0 < b → Half (closest a b) a b
 closest-error a b B = near (a / b) (a % b) b a (compare (a % b * 2) b) (div-add-mod' a b) (mod-lt a B) (cmp (a % b * 2) b)

@@ -30,7 +30,13 @@ pub held : (f : Format) (s : Bool) (m : ℕ) (e : ℤ) → T (fits f (fin s m e)
 unfolding fits
 held f s zero e t =
     let z : e ≡ pos 0 = zero-exp f s e (unfold fits in t) in
-    subst (λ (g : ℤ). Held f zero g) (sym z) (record { digits = pow-pos (prec f); lowest = above-one f; under = subst (λ (n : ℕ). 0 < n) (sym (mul-one (2 ^ suc (emax f)))) (pow-pos (suc (emax f))) })
+    subst (λ (g : ℤ). Held f zero g) (sym z)
+    (record {
+      digits = pow-pos (prec f);
+      lowest = above-one f;
+      under =
+          subst (λ (n : ℕ). 0 < n) (sym (mul-one (2 ^ suc (emax f)))) (pow-pos (suc (emax f)));
+    })
 held f s (suc m) e t =
     let a : Bool = eqb (suc m % 2) 1 in
     let b : Bool = ltb (suc m) (2 ^ prec f) in
@@ -58,7 +64,8 @@ own-value f s m e h =
     let r = low f - d in
     let j = upx e + r in
     let spl : 2 ^ low f ≡ 2 ^ r * down e = sym (ap (λ (z : ℕ). 2 ^ z) (back (low f) d L)) ∙ pow-add 2 r d ∙ ap (λ (z : ℕ). 2 ^ r * z) (sym (down-is e)) in
-    let M : m * 2 ^ j ≡ m * up e * 2 ^ r = ap (λ (z : ℕ). m * z) (pow-add 2 (upx e) r ∙ ap (λ (z : ℕ). z * 2 ^ r) (sym (up-is e))) ∙ sym (mul-assoc m (up e) (2 ^ r)) in
+    let M : m * 2 ^ j ≡ m * up e * 2 ^ r =
+    ap (λ (z : ℕ). m * z) (pow-add 2 (upx e) r ∙ ap (λ (z : ℕ). z * 2 ^ r) (sym (up-is e))) ∙ sym (mul-assoc m (up e) (2 ^ r)) in
     let top : 2 ^ suc (emax f) * down e * 2 ^ r ≡ 2 ^ (low f + suc (emax f)) =
     mul-assoc (2 ^ suc (emax f)) (down e) (2 ^ r)
     ∙ ap (λ (z : ℕ). 2 ^ suc (emax f) * z) (mul-comm (down e) (2 ^ r) ∙ sym spl)
@@ -70,7 +77,8 @@ own-value f s m e h =
 
 pub round-own : (f : Format) (s : Bool) (m : ℕ) (e : ℤ) → T (fits f (fin s m e)) → round f s (m * up e) (down e) ≡ fin s m e
 round-own f s m e t =
-    value-unique f (round f s (m * up e) (down e)) (fin s m e) s (m * up e) (down e) (down-pos e) (round-fits f s (m * up e) (down e)) t (own-value f s m e (held f s m e t)) (refl, refl)
+    value-unique f (round f s (m * up e) (down e)) (fin s m e) s (m * up e) (down e) (down-pos e) (round-fits f s (m * up e) (down e)) t
+    (own-value f s m e (held f s m e t)) (refl, refl)
 
 -- any fraction that a value of the format equals rounds to it
 pub round-to : (f : Format) (x : Float) (s : Bool) (a c : ℕ) → 0 < c → T (fits f x) → HasValue x s a c → round f s a c ≡ x
@@ -137,7 +145,8 @@ round-shape f s n d =
     subst (λ (z : Float). (z ≡ inf s) ⊎ HasValue z s (grid f n d) (2 ^ low f)) (sym (round-is f s n d)) (go (ltb (grid f n d) (overflow f)))
   where
     go : (b : Bool) → (cond b (odd (suc (prec f)) s (kept (prec f) (n * 2 ^ low f) d) (drop (prec f) (n * 2 ^ low f) d) (low f)) (inf s) ≡ inf s)
-        ⊎ HasValue (cond b (odd (suc (prec f)) s (kept (prec f) (n * 2 ^ low f) d) (drop (prec f) (n * 2 ^ low f) d) (low f)) (inf s)) s (grid f n d) (2 ^ low f)
+        ⊎ HasValue (cond b (odd (suc (prec f)) s (kept (prec f) (n * 2 ^ low f) d) (drop (prec f) (n * 2 ^ low f) d) (low f)) (inf s)) s (grid f n d)
+        (2 ^ low f)
     go true = inr (odd-sign (suc (prec f)) s (kept (prec f) (n * 2 ^ low f) d) (drop (prec f) (n * 2 ^ low f) d) (low f))
     go false = inl refl
 

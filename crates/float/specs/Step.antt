@@ -1,9 +1,11 @@
--- Rounding to a multiple of 2 ^ k units by an addition: with M = 2 ^ (prec - 1 + k) units, and 0 <= x < M, the sum x + M has no digit below 2 ^ k units, so it is x rounded to such a multiple, and taking M off again is exact.
+-- Rounding to a multiple of 2 ^ k units by an addition: with M = 2 ^ (prec - 1 + k) units, and 0 <= x < M, the sum x + M has no
+-- digit below 2 ^ k units, so it is x rounded to such a multiple, and taking M off again is exact.
 -- A unit is the format's smallest value. Generic over the format.
 use mathlib.Core.Path.{_≡_, refl, sym, ap, _∙_, subst}
 use mathlib.Core.Bool.{Bool, true, false, cond}
 use Prim.Native.Nat.{ℕ, suc, _+_, _-_, _*_, _/_, _%_, _^_, _≤_, _<_, compare, Ordering, Ordering·lt, Ordering·eq, Ordering·gt}
-use native.Mathlib.Nat.{le-trans, le-of-eq, lt-of-lt-of-le, lt-of-le-of-lt, lt-of-not-le, not-le-of-lt, le-antisymm, mul-assoc, mul-pos, mul-le-mul-right, add-mul, mul-div-cancel, add-mul-div-right, add-mul-mod-self-right, two-pow-succ}
+use native.Mathlib.Nat.{le-trans, le-of-eq, lt-of-lt-of-le, lt-of-le-of-lt, lt-of-not-le, not-le-of-lt, le-antisymm, mul-assoc, mul-pos}
+use native.Mathlib.Nat.{mul-le-mul-right, add-mul, mul-div-cancel, add-mul-div-right, add-mul-mod-self-right, two-pow-succ}
 use native.Mathlib.Omega.{arith}
 use lib.Dec.{T, ltb, ltb→lt, lit<}
 use lib.Pow.{pow-add, pow-pos, pow-mono, pow-lt, shr-lt}
@@ -111,9 +113,12 @@ module _ (f : Format) (n k : ℕ) (small : n < 2 ^ (prec f - 1 + k)) (room : pre
       let s = (q + 2 ^ (prec f - 1)) * 2 ^ k in
       let P : 0 < U = pow-pos (low f) in
       let e : s ≡ q * 2 ^ k + M = add-mul q (2 ^ (prec f - 1)) (2 ^ k) ∙ ap (λ (z : ℕ). q * 2 ^ k + z) (sym (pow-add 2 (prec f - 1) k)) in
-      let sv : HasValue (add f x m) false s U = subst (λ (z : Float). HasValue z false s U) (sym (add-at f x m false false n M U P v w ∙ plus f n M U)) sum-value in
+      let sv : HasValue (add f x m) false s U =
+      subst (λ (z : Float). HasValue z false s U) (sym (add-at f x m false false n M U P v w ∙ plus f n M U)) sum-value in
       let b : M ≤ s = (let z : M ≤ s = omega arith in z) in
       let d : s - M ≡ q * 2 ^ k = (let z : s - M ≡ q * 2 ^ k = omega arith in z) in
-      let y : sub f (add f x m) m ≡ round f false (q * 2 ^ k) U = sub-at f (add f x m) m false false s M U P sv w ∙ minus-at-most f s M U b ∙ ap (λ (z : ℕ). round f false z U) d in
+      let y : sub f (add f x m) m ≡ round f false (q * 2 ^ k) U =
+      sub-at f (add f x m) m false false s M U P sv w ∙ minus-at-most f s M U b ∙ ap (λ (z : ℕ). round f false z U) d in
       let Q : q < 2 ^ prec f = lt-of-le-of-lt closest-small (top-under f) in
-      subst (λ (z : Float). HasValue z false (q * 2 ^ k) U) (sym y) (round-exact f false (q * 2 ^ k) U q k P Q (no-overflow q (native.Mathlib.Nat.le-of-lt Q)) refl)
+      subst (λ (z : Float). HasValue z false (q * 2 ^ k) U) (sym y)
+      (round-exact f false (q * 2 ^ k) U q k P Q (no-overflow q (native.Mathlib.Nat.le-of-lt Q)) refl)

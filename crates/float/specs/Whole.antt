@@ -1,8 +1,10 @@
--- `floor` and `roundAway` by the size of the operand: a value that is large, zero or no number stays, and the result is always that whole number exactly, since a format holds every whole number that it can round to. Generic over the format.
+-- `floor` and `roundAway` by the size of the operand: a value that is large, zero or no number stays, and the result is always
+-- that whole number exactly, since a format holds every whole number that it can round to. Generic over the format.
 use mathlib.Core.Path.{_≡_, refl, sym, ap, _∙_, subst}
 use mathlib.Core.Bool.{Bool, true, false, not}
 use Prim.Native.Nat.{ℕ, suc, _+_, _-_, _*_, _/_, _^_, _≤_, _<_}
-use native.Mathlib.Nat.{le-of-lt, le-trans, le-of-eq, zero-lt-suc, mul-one, one-mul, zero-mul, mul-assoc, mul-le-mul-left, mul-div-cancel, div-lt-iff-lt-mul, pow-succ', add-mul}
+use native.Mathlib.Nat.{le-of-lt, le-trans, le-of-eq, zero-lt-suc, mul-one, one-mul, zero-mul, mul-assoc, mul-le-mul-left, mul-div-cancel}
+use native.Mathlib.Nat.{div-lt-iff-lt-mul, pow-succ', add-mul}
 use native.Mathlib.Omega.{arith}
 use lib.IntN.{ℤ, pos, negsuc}
 use lib.Arith.{digits-div}
@@ -57,7 +59,8 @@ Still nan = Unit
 Still (inf s) = Unit
 Still (fin s m e) = (n : ℕ) × (m * up e ≡ n * down e)
 
-rule-still : (f : Format) {g : ℕ → ℕ → ℕ} → WholeRule g → (s : Bool) (m : ℕ) (e : ℤ) → T (fits f (fin s m e)) → Still (fin s m e) → round f s (g (m * up e) (down e)) 1 ≡ fin s m e
+rule-still : (f : Format) {g : ℕ → ℕ → ℕ} → WholeRule g → (s : Bool) (m : ℕ) (e : ℤ) → T (fits f (fin s m e)) → Still (fin s m e)
+    → round f s (g (m * up e) (down e)) 1 ≡ fin s m e
 rule-still f {g} r s m e t h =
     ap (λ (z : ℕ). round f s z 1) (ap (λ (z : ℕ). g z (down e)) (h .1) ∙ r .stays (h .0) (down e) (down-pos e))
     ∙ round-to f (fin s m e) s (h .0) 1 (zero-lt-suc 0) t (refl, mul-one (m * up e) ∙ h .1)
@@ -138,14 +141,18 @@ under-half : (f : Format) → 2 ^ (prec f - 1) ≤ 2 ^ prec f
 under-half binary32 = lit≤ tt
 under-half binary64 = lit≤ tt
 
-rule-value : (f : Format) {g : ℕ → ℕ → ℕ} → WholeRule g → (s : Bool) (m : ℕ) (e : ℤ) → T (fits f (fin s m e)) → HasValue (round f s (g (m * up e) (down e)) 1) s (g (m * up e) (down e)) 1
-rule-value f {g} r s m e t = go (leb (2 ^ (prec f - 1) * down e) (m * up e)) (leb→le (2 ^ (prec f - 1) * down e) (m * up e)) (nleb→lt (2 ^ (prec f - 1) * down e) (m * up e))
+rule-value : (f : Format) {g : ℕ → ℕ → ℕ} → WholeRule g → (s : Bool) (m : ℕ) (e : ℤ) → T (fits f (fin s m e))
+    → HasValue (round f s (g (m * up e) (down e)) 1) s (g (m * up e) (down e)) 1
+rule-value f {g} r s m e t =
+    go (leb (2 ^ (prec f - 1) * down e) (m * up e)) (leb→le (2 ^ (prec f - 1) * down e) (m * up e)) (nleb→lt (2 ^ (prec f - 1) * down e) (m * up e))
   where
-    go : (b : Bool) → (T b → 2 ^ (prec f - 1) * down e ≤ m * up e) → (T (not b) → m * up e < 2 ^ (prec f - 1) * down e) → HasValue (round f s (g (m * up e) (down e)) 1) s (g (m * up e) (down e)) 1
+    go : (b : Bool) → (T b → 2 ^ (prec f - 1) * down e ≤ m * up e) → (T (not b) → m * up e < 2 ^ (prec f - 1) * down e)
+        → HasValue (round f s (g (m * up e) (down e)) 1) s (g (m * up e) (down e)) 1
     go true p q =
         let w = large f m e (held f s m e t .digits) (p tt) in
         let d : g (m * up e) (down e) ≡ w .0 = ap (λ (z : ℕ). g z (down e)) (w .1) ∙ r .stays (w .0) (down e) (down-pos e) in
-        subst (λ (z : Float). HasValue z s (g (m * up e) (down e)) 1) (sym (rule-still f r s m e t w)) (refl, mul-one (m * up e) ∙ w .1 ∙ ap (λ (z : ℕ). z * down e) (sym d))
+        subst (λ (z : Float). HasValue z s (g (m * up e) (down e)) 1) (sym (rule-still f r s m e t w))
+        (refl, mul-one (m * up e) ∙ w .1 ∙ ap (λ (z : ℕ). z * down e) (sym d))
     go false p q = round-whole f s (g (m * up e) (down e)) (le-trans (r .small (m * up e) (down e) (2 ^ (prec f - 1)) (down-pos e) (q tt)) (under-half f))
 
 pub floor-value : (f : Format) (s : Bool) (m : ℕ) (e : ℤ) → T (fits f (fin s m e)) → HasValue (floor f (fin s m e)) s (downward s (m * up e) (down e)) 1

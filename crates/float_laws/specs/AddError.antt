@@ -1,4 +1,5 @@
--- The error of an addition, in whole numbers of the format's smallest value: the sum of two values is one rounding of their exact sum, so where that is below 2 ^ j units it is off by at most half of 2 ^ (j - prec).
+-- The error of an addition, in whole numbers of the format's smallest value: the sum of two values is one rounding of their
+-- exact sum, so where that is below 2 ^ j units it is off by at most half of 2 ^ (j - prec).
 -- Generic over the format.
 use mathlib.Core.Path.{_≡_, refl, sym, ap, _∙_, subst}
 use mathlib.Core.Bool.{Bool, true, false, not, _&&_, cond}
@@ -30,21 +31,31 @@ sum-once f false a false b c = record { sign = false; size = a + b; is = refl; w
 sum-once f true a true b c = record { sign = true; size = a + b; is = refl; whole = negℤ-+ℤ (pos a) (pos b) }
 sum-once f false a true b c = go (ltb a b) (pos-neg a b)
   where
-    go : (t : Bool) → pos a +ℤ negℤ (pos b) ≡ cond t (negℤ (pos (b - a))) (pos (a - b)) → Once f c (cond t (round f true (b - a) c) (round f false (a - b) c)) (pos a +ℤ negℤ (pos b))
+    go : (t : Bool) → pos a +ℤ negℤ (pos b) ≡ cond t (negℤ (pos (b - a))) (pos (a - b))
+        → Once f c (cond t (round f true (b - a) c) (round f false (a - b) c)) (pos a +ℤ negℤ (pos b))
     go true e = record { sign = true; size = b - a; is = refl; whole = sym e }
     go false e = record { sign = false; size = a - b; is = refl; whole = sym e }
 sum-once f true a false b c = go (ltb a b) (ltb b a) (ltb→lt a b) (ltb→lt b a) (nltb→le a b) (nltb→le b a) (+ℤ-comm (negℤ (pos a)) (pos b) ∙ pos-neg b a)
   where
-    go : (t u : Bool) → (T t → a < b) → (T u → b < a) → (T (not t) → b ≤ a) → (T (not u) → a ≤ b) → negℤ (pos a) +ℤ pos b ≡ cond u (negℤ (pos (a - b))) (pos (b - a))
+    go : (t u : Bool) → (T t → a < b) → (T u → b < a) → (T (not t) → b ≤ a) → (T (not u) → a ≤ b)
+        → negℤ (pos a) +ℤ pos b ≡ cond u (negℤ (pos (a - b))) (pos (b - a))
         → Once f c (cond t (round f false (b - a) c) (round f (true && u) (a - b) c)) (negℤ (pos a) +ℤ pos b)
     go true true p q p' q' e = absurd (let x : a < b = p tt in let y : b < a = q tt in omega arith)
     go true false p q p' q' e = record { sign = false; size = b - a; is = refl; whole = sym e }
     go false true p q p' q' e = record { sign = true; size = a - b; is = refl; whole = sym e }
-    go false false p q p' q' e = record { sign = false; size = a - b; is = refl; whole = ap pos (let x : b ≤ a = p' tt in let y : a ≤ b = q' tt in let k : a - b ≡ b - a = omega arith in k) ∙ sym e }
+    go false false p q p' q' e =
+        record {
+          sign = false;
+          size = a - b;
+          is = refl;
+          whole =
+              ap pos (let x : b ≤ a = p' tt in let y : a ≤ b = q' tt in let k : a - b ≡ b - a = omega arith in k) ∙ sym e;
+        }
 
 pub add-once : (f : Format) (c : ℕ) {x y : Float} {z w : ℤ} → 0 < c → Is c x z → Is c y w → Once f c (add f x y) (z +ℤ w)
 add-once f c {x} {y} {z} {w} C h k =
-    let e : signed (h .sign) (h .size) +ℤ signed (k .sign) (k .size) ≡ z +ℤ w = ap (λ (v : ℤ). v +ℤ signed (k .sign) (k .size)) (h .whole) ∙ ap (λ (v : ℤ). z +ℤ v) (k .whole) in
+    let e : signed (h .sign) (h .size) +ℤ signed (k .sign) (k .size) ≡ z +ℤ w =
+    ap (λ (v : ℤ). v +ℤ signed (k .sign) (k .size)) (h .whole) ∙ ap (λ (v : ℤ). z +ℤ v) (k .whole) in
     subst (λ (v : Float). Once f c v (z +ℤ w)) (sym (add-at f x y (h .sign) (k .sign) (h .size) (k .size) c C (h .value) (k .value)))
     (subst (λ (v : ℤ). Once f c (sum f (h .sign) (h .size) (k .sign) (k .size) c) v) e (sum-once f (h .sign) (h .size) (k .sign) (k .size) c))
 
@@ -72,7 +83,8 @@ pub record Near (f : Format) (x : Float) (z : ℤ) (d : ℕ) : Type 0 where
   pub value : Is (2 ^ low f) x at
   pub off : dist at z * 2 ≤ d
 
-pub add-near : (f : Format) (x y : Float) (z w : ℤ) (j : ℕ) → j < low f + suc (emax f) → Is (2 ^ low f) x z → Is (2 ^ low f) y w → natAbs (z +ℤ w) < 2 ^ j → Near f (add f x y) (z +ℤ w) (2 ^ (j - prec f))
+pub add-near : (f : Format) (x y : Float) (z w : ℤ) (j : ℕ) → j < low f + suc (emax f) → Is (2 ^ low f) x z → Is (2 ^ low f) y w → natAbs (z +ℤ w) < 2 ^ j
+    → Near f (add f x y) (z +ℤ w) (2 ^ (j - prec f))
 add-near f x y z w j J h k l =
     let U = 2 ^ low f in
     let o = add-once f U (pow-pos (low f)) h k in
@@ -81,7 +93,8 @@ add-near f x y z w j J h k l =
     record {
       at = signed (o .sign) (r .to);
       value = record { sign = o .sign; size = r .to; value = subst (λ (v : Float). HasValue v (o .sign) (r .to) U) (sym (o .is)) (r .value); whole = refl };
-      off = subst (λ (v : ℤ). dist (signed (o .sign) (r .to)) v * 2 ≤ 2 ^ (j - prec f)) (o .whole) (dist-signed (o .sign) (r .to) (o .size) (2 ^ (j - prec f)) (r .not-more) (r .not-less));
+      off = subst (λ (v : ℤ). dist (signed (o .sign) (r .to)) v * 2 ≤ 2 ^ (j - prec f)) (o .whole)
+          (dist-signed (o .sign) (r .to) (o .size) (2 ^ (j - prec f)) (r .not-more) (r .not-less));
     }
 
 -- ---- a bound on the value bounds the number of units
@@ -94,5 +107,6 @@ size-within f x z b h k = subst (λ (n : ℕ). n ≤ b * 2 ^ low f) (sym (ap nat
     go (inf s) v l = absurd v
     go (fin s m e) v l =
         le-of-mul-le-mul-right
-        (le-trans (le-of-eq (sym (v .1))) (le-trans (mul-le-mul-right (2 ^ low f) (le-trans (le-of-eq (sym (mul-one (m * up e)))) l)) (le-of-eq (mul-right-comm b (down e) (2 ^ low f)))))
+        (le-trans (le-of-eq (sym (v .1)))
+        (le-trans (mul-le-mul-right (2 ^ low f) (le-trans (le-of-eq (sym (mul-one (m * up e)))) l)) (le-of-eq (mul-right-comm b (down e) (2 ^ low f)))))
         (down-pos e)

@@ -1,4 +1,5 @@
--- The error of rounding, in whole numbers: in units of the format's smallest value, `round` moves a fraction n / den by at most half of the 2 ^ drop units that it rounds to. Generic over the format.
+-- The error of rounding, in whole numbers: in units of the format's smallest value, `round` moves a fraction n / den by at most
+-- half of the 2 ^ drop units that it rounds to. Generic over the format.
 use mathlib.Core.Path.{_≡_, sym, ap, _∙_, subst}
 use mathlib.Core.Bool.{Bool, true, false}
 use Prim.Native.Nat.{ℕ, suc, _+_, _-_, _*_, _/_, _^_, _≤_, _<_}
@@ -18,7 +19,8 @@ use Rattle.float.specs.Nearest.{closest-error}
 -- ---- of `round`: with n = num * 2 ^ low, the result in units is `grid`, and n / den is the fraction in units
 
 round-error : (f : Format) (num den : ℕ) → 0 < den
-    → (grid f num den * den * 2 ≤ num * 2 ^ low f * 2 + den * 2 ^ drop (prec f) (num * 2 ^ low f) den) × (num * 2 ^ low f * 2 ≤ grid f num den * den * 2 + den * 2 ^ drop (prec f) (num * 2 ^ low f) den)
+    → (grid f num den * den * 2 ≤ num * 2 ^ low f * 2 + den * 2 ^ drop (prec f) (num * 2 ^ low f) den)
+    × (num * 2 ^ low f * 2 ≤ grid f num den * den * 2 + den * 2 ^ drop (prec f) (num * 2 ^ low f) den)
 round-error f num den D =
     let n = num * 2 ^ low f in
     let k = drop (prec f) n den in
@@ -44,12 +46,15 @@ pub record Rounded (f : Format) (s : Bool) (n j : ℕ) : Type 0 where
 
 signed-val : (f : Format) (s : Bool) (a c : ℕ) → grid f a c < overflow f → HasValue (round f s a c) s (grid f a c) (2 ^ low f)
 signed-val f false a c h = round-val f a c h
-signed-val f true a c h = subst (λ (z : Float). HasValue z true (grid f a c) (2 ^ low f)) (neg-round f false a c) (neg-value (round f false a c) false (grid f a c) (2 ^ low f) (round-val f a c h))
+signed-val f true a c h =
+    subst (λ (z : Float). HasValue z true (grid f a c) (2 ^ low f)) (neg-round f false a c)
+    (neg-value (round f false a c) false (grid f a c) (2 ^ low f) (round-val f a c h))
 
 scaled-le : (g U n u : ℕ) → 0 < U → g * U * 2 ≤ n * U * 2 + U * u → g * 2 ≤ n * 2 + u
 scaled-le g U n u P h =
     native.Mathlib.Nat.le-of-mul-le-mul-right
-    (le-trans (le-of-eq (mul-right-comm g 2 U)) (le-trans h (le-of-eq (ap (λ (z : ℕ). z + U * u) (mul-right-comm n U 2) ∙ ap (λ (z : ℕ). n * 2 * U + z) (mul-comm U u) ∙ sym (add-mul (n * 2) u U)))))
+    (le-trans (le-of-eq (mul-right-comm g 2 U))
+    (le-trans h (le-of-eq (ap (λ (z : ℕ). z + U * u) (mul-right-comm n U 2) ∙ ap (λ (z : ℕ). n * 2 * U + z) (mul-comm U u) ∙ sym (add-mul (n * 2) u U)))))
     P
 
 -- 2 ^ j < overflow leaves room for the half unit

@@ -1,4 +1,5 @@
--- Values that denote z / c exactly. Where every value is a multiple of 1 / 2 ^ l and none exceeds 2 ^ prec of them, a float addition, negation and comparison are those of whole numbers.
+-- Values that denote z / c exactly. Where every value is a multiple of 1 / 2 ^ l and none exceeds 2 ^ prec of them, a float
+-- addition, negation and comparison are those of whole numbers.
 -- Generic over the format.
 use mathlib.Core.Path.{_≡_, refl, sym, ap, _∙_, subst}
 use mathlib.Core.Bool.{Bool, true, false, not, _&&_, cond}
@@ -27,7 +28,8 @@ abs-signed false a = refl
 -- ---- negation
 
 pub is-neg : {c : ℕ} {x : Float} {z : ℤ} → Is c x z → Is c (neg x) (negℤ z)
-is-neg {c} {x} {z} h = record { sign = not (h .sign); size = h .size; value = neg-value x (h .sign) (h .size) c (h .value); whole = go (h .sign) (h .size) ∙ ap negℤ (h .whole) }
+is-neg {c} {x} {z} h =
+    record { sign = not (h .sign); size = h .size; value = neg-value x (h .sign) (h .size) c (h .value); whole = go (h .sign) (h .size) ∙ ap negℤ (h .whole) }
   where
     go : (s : Bool) (a : ℕ) → signed (not s) a ≡ negℤ (signed s a)
     go true a = sym (negℤ-negℤ (pos a))
@@ -36,7 +38,8 @@ is-neg {c} {x} {z} h = record { sign = not (h .sign); size = h .size; value = ne
 -- ---- addition
 
 made : (f : Format) (s : Bool) (n l : ℕ) (z : ℤ) → l ≤ low f → signed s n ≡ z → natAbs z ≤ 2 ^ prec f → Is (2 ^ l) (round f s n (2 ^ l)) z
-made f s n l z L e h = record { sign = s; size = n; value = exact-at f s n l L (subst (λ (k : ℕ). k ≤ 2 ^ prec f) (ap natAbs (sym e) ∙ abs-signed s n) h); whole = e }
+made f s n l z L e h =
+    record { sign = s; size = n; value = exact-at f s n l L (subst (λ (k : ℕ). k ≤ 2 ^ prec f) (ap natAbs (sym e) ∙ abs-signed s n) h); whole = e }
 
 succ-off : (a b : ℕ) → a < b → b - a ≡ suc (b - suc a)
 succ-off a b h = omega arith
@@ -53,27 +56,34 @@ pos-neg a (suc b) = go (ltb a (suc b)) (ltb→lt a (suc b))
     go true k = sym (ap (λ (z : ℕ). negℤ (pos z)) (succ-off a (suc b) (k tt)))
     go false k = refl
 
-sum-is : (f : Format) (l : ℕ) (s : Bool) (a : ℕ) (t : Bool) (b : ℕ) → l ≤ low f → natAbs (signed s a +ℤ signed t b) ≤ 2 ^ prec f → Is (2 ^ l) (sum f s a t b (2 ^ l)) (signed s a +ℤ signed t b)
+sum-is : (f : Format) (l : ℕ) (s : Bool) (a : ℕ) (t : Bool) (b : ℕ) → l ≤ low f → natAbs (signed s a +ℤ signed t b) ≤ 2 ^ prec f
+    → Is (2 ^ l) (sum f s a t b (2 ^ l)) (signed s a +ℤ signed t b)
 unfolding sum
 sum-is f l false a false b L h = made f false (a + b) l (pos (a + b)) L refl h
 sum-is f l true a true b L h = made f true (a + b) l (negℤ (pos a) +ℤ negℤ (pos b)) L (negℤ-+ℤ (pos a) (pos b)) h
 sum-is f l false a true b L h = go (ltb a b) (pos-neg a b)
   where
-    go : (t : Bool) → pos a +ℤ negℤ (pos b) ≡ cond t (negℤ (pos (b - a))) (pos (a - b)) → Is (2 ^ l) (cond t (round f true (b - a) (2 ^ l)) (round f false (a - b) (2 ^ l))) (pos a +ℤ negℤ (pos b))
+    go : (t : Bool) → pos a +ℤ negℤ (pos b) ≡ cond t (negℤ (pos (b - a))) (pos (a - b))
+        → Is (2 ^ l) (cond t (round f true (b - a) (2 ^ l)) (round f false (a - b) (2 ^ l))) (pos a +ℤ negℤ (pos b))
     go true e = made f true (b - a) l (pos a +ℤ negℤ (pos b)) L (sym e) h
     go false e = made f false (a - b) l (pos a +ℤ negℤ (pos b)) L (sym e) h
 sum-is f l true a false b L h = go (ltb a b) (ltb b a) (ltb→lt a b) (ltb→lt b a) (nltb→le a b) (nltb→le b a) (+ℤ-comm (negℤ (pos a)) (pos b) ∙ pos-neg b a)
   where
-    go : (t u : Bool) → (T t → a < b) → (T u → b < a) → (T (not t) → b ≤ a) → (T (not u) → a ≤ b) → negℤ (pos a) +ℤ pos b ≡ cond u (negℤ (pos (a - b))) (pos (b - a))
+    go : (t u : Bool) → (T t → a < b) → (T u → b < a) → (T (not t) → b ≤ a) → (T (not u) → a ≤ b)
+        → negℤ (pos a) +ℤ pos b ≡ cond u (negℤ (pos (a - b))) (pos (b - a))
         → Is (2 ^ l) (cond t (round f false (b - a) (2 ^ l)) (round f (true && u) (a - b) (2 ^ l))) (negℤ (pos a) +ℤ pos b)
     go true true p q p' q' e = absurd (let x : a < b = p tt in let y : b < a = q tt in omega arith)
     go true false p q p' q' e = made f false (b - a) l (negℤ (pos a) +ℤ pos b) L (sym e) h
     go false true p q p' q' e = made f true (a - b) l (negℤ (pos a) +ℤ pos b) L (sym e) h
-    go false false p q p' q' e = made f false (a - b) l (negℤ (pos a) +ℤ pos b) L (ap pos (let x : b ≤ a = p' tt in let y : a ≤ b = q' tt in let k : a - b ≡ b - a = omega arith in k) ∙ sym e) h
+    go false false p q p' q' e =
+        made f false (a - b) l (negℤ (pos a) +ℤ pos b) L
+        (ap pos (let x : b ≤ a = p' tt in let y : a ≤ b = q' tt in let k : a - b ≡ b - a = omega arith in k) ∙ sym e) h
 
-pub is-add : (f : Format) (l : ℕ) {x y : Float} {z w : ℤ} → l ≤ low f → Is (2 ^ l) x z → Is (2 ^ l) y w → natAbs (z +ℤ w) ≤ 2 ^ prec f → Is (2 ^ l) (add f x y) (z +ℤ w)
+pub is-add : (f : Format) (l : ℕ) {x y : Float} {z w : ℤ} → l ≤ low f → Is (2 ^ l) x z → Is (2 ^ l) y w → natAbs (z +ℤ w) ≤ 2 ^ prec f
+    → Is (2 ^ l) (add f x y) (z +ℤ w)
 is-add f l {x} {y} {z} {w} L h k b =
-    let e : signed (h .sign) (h .size) +ℤ signed (k .sign) (k .size) ≡ z +ℤ w = ap (λ (v : ℤ). v +ℤ signed (k .sign) (k .size)) (h .whole) ∙ ap (λ (v : ℤ). z +ℤ v) (k .whole) in
+    let e : signed (h .sign) (h .size) +ℤ signed (k .sign) (k .size) ≡ z +ℤ w =
+    ap (λ (v : ℤ). v +ℤ signed (k .sign) (k .size)) (h .whole) ∙ ap (λ (v : ℤ). z +ℤ v) (k .whole) in
     subst (λ (v : Float). Is (2 ^ l) v (z +ℤ w)) (sym (add-at f x y (h .sign) (k .sign) (h .size) (k .size) (2 ^ l) (pow-pos l) (h .value) (k .value)))
     (subst (λ (v : ℤ). Is (2 ^ l) (sum f (h .sign) (h .size) (k .sign) (k .size) (2 ^ l)) v) e
     (sum-is f l (h .sign) (h .size) (k .sign) (k .size) L (subst (λ (v : ℤ). natAbs v ≤ 2 ^ prec f) (sym e) b)))
@@ -92,7 +102,9 @@ neg-both : (a b : ℕ) → ltb b a ≡ ltZ (negℤ (pos a)) (negℤ (pos b))
 neg-both zero zero = refl
 neg-both zero (suc b) = bool-iff (ltb (suc b) 0) false (λ t. let z : suc b < 0 = ltb→lt (suc b) 0 t in absurd (omega arith)) (λ t. absurd t)
 neg-both (suc a) zero = bool-iff (ltb 0 (suc a)) true (λ t. tt) (λ t. lt→ltb 0 (suc a) (omega arith))
-neg-both (suc a) (suc b) = bool-iff (ltb (suc b) (suc a)) (ltb b a) (λ t. let z : suc b < suc a = ltb→lt (suc b) (suc a) t in lt→ltb b a (omega arith)) (λ t. let z : b < a = ltb→lt b a t in lt→ltb (suc b) (suc a) (omega arith))
+neg-both (suc a) (suc b) =
+    bool-iff (ltb (suc b) (suc a)) (ltb b a) (λ t. let z : suc b < suc a = ltb→lt (suc b) (suc a) t in
+    lt→ltb b a (omega arith)) (λ t. let z : b < a = ltb→lt b a t in lt→ltb (suc b) (suc a) (omega arith))
 
 below-is : (s : Bool) (a : ℕ) (t : Bool) (b : ℕ) → below s a t b ≡ ltZ (signed s a) (signed t b)
 below-is false a false b = refl
@@ -141,4 +153,5 @@ lt-inf {c} {y} {w} h = go y (h .value)
 pub every-finite : (f : Format) (x : Float) → T (fits f x) → T (finite x) → (z : ℤ) × Is (2 ^ low f) x z
 every-finite f nan t h = absurd h
 every-finite f (inf s) t h = absurd h
-every-finite f (fin s m e) t h = (signed s (inUnits f (fin s m e)), record { sign = s; size = inUnits f (fin s m e); value = units-of f s m e (held f s m e t); whole = refl })
+every-finite f (fin s m e) t h =
+    (signed s (inUnits f (fin s m e)), record { sign = s; size = inUnits f (fin s m e); value = units-of f s m e (held f s m e t); whole = refl })

@@ -3,7 +3,8 @@
 use mathlib.Core.Path.{_≡_, refl, sym, ap, _∙_, subst}
 use mathlib.Core.Bool.{Bool, true, false, not, cond}
 use Prim.Native.Nat.{ℕ, zero, suc, _+_, _-_, _*_, _/_, _^_, _≤_, _<_, min}
-use native.Mathlib.Nat.{le-trans, le-of-eq, lt-of-le-of-lt, mul-one, one-mul, zero-mul, mul-div-cancel, div-lt-iff-lt-mul, div-mul-le-self, lt-div-mul-add, le-of-mul-le-mul-right, mul-le-mul-right, mul-right-comm, add-mul}
+use native.Mathlib.Nat.{le-trans, le-of-eq, lt-of-le-of-lt, mul-one, one-mul, zero-mul, mul-div-cancel, div-lt-iff-lt-mul, div-mul-le-self}
+use native.Mathlib.Nat.{lt-div-mul-add, le-of-mul-le-mul-right, mul-le-mul-right, mul-right-comm, add-mul}
 use native.Mathlib.Omega.{arith}
 use lib.IntN.{ℤ, pos, negℤ, natAbs, _*ℤ_}
 use lib.Signed.{_≤ℤ_, ≤ℤ-refl, leZ-yes}
@@ -37,10 +38,13 @@ int-value h (fin t m e) s n v l =
 -- ---- the floor and the ceiling as integers
 
 down-le : (s : Bool) (a c k : ℕ) → 0 < c → a * 1 ≤ k * c → downward s a c ≤ k
-down-le false a c k C h = let l : a / c < k + 1 = div-lt-iff-lt-mul C .1 (let e : (k + 1) * c ≡ k * c + c = add-mul k 1 c ∙ ap (λ (z : ℕ). k * c + z) (one-mul c) in omega arith) in omega arith
-down-le true a c k C h = let l : (a + (c - 1)) / c < k + 1 = div-lt-iff-lt-mul C .1 (let e : (k + 1) * c ≡ k * c + c = add-mul k 1 c ∙ ap (λ (z : ℕ). k * c + z) (one-mul c) in omega arith) in omega arith
+down-le false a c k C h = let l : a / c < k + 1 =
+    div-lt-iff-lt-mul C .1 (let e : (k + 1) * c ≡ k * c + c = add-mul k 1 c ∙ ap (λ (z : ℕ). k * c + z) (one-mul c) in omega arith) in omega arith
+down-le true a c k C h = let l : (a + (c - 1)) / c < k + 1 =
+    div-lt-iff-lt-mul C .1 (let e : (k + 1) * c ≡ k * c + c = add-mul k 1 c ∙ ap (λ (z : ℕ). k * c + z) (one-mul c) in omega arith) in omega arith
 
-floor-int : (f : Format) (h : ℕ) (s : Bool) (m : ℕ) (e : ℤ) → T (fits f (fin s m e)) → downward s (m * up e) (down e) < 2 ^ h → toSigned h (floor f (fin s m e)) ≡ signed s (downward s (m * up e) (down e))
+floor-int : (f : Format) (h : ℕ) (s : Bool) (m : ℕ) (e : ℤ) → T (fits f (fin s m e)) → downward s (m * up e) (down e) < 2 ^ h
+    → toSigned h (floor f (fin s m e)) ≡ signed s (downward s (m * up e) (down e))
 floor-int f h s m e t l = int-value h (floor f (fin s m e)) s (downward s (m * up e) (down e)) (floor-value f s m e t) l
 
 pub floor-bound : (f : Format) (h : ℕ) (x : Float) (k : ℕ) → T (fits f x) → Within x k 1 → k < 2 ^ h → natAbs (toSigned h (floor f x)) ≤ k
@@ -51,11 +55,13 @@ floor-bound f h (fin s m e) k t w l =
     let b : n ≤ k = down-le s (m * up e) (down e) k (down-pos e) w in
     subst (λ (z : ℕ). z ≤ k) (sym (ap natAbs (floor-int f h s m e t (lt-of-le-of-lt b l)) ∙ abs-signed s n)) b
 
-ceil-int : (f : Format) (h : ℕ) (s : Bool) (m : ℕ) (e : ℤ) → T (fits f (fin s m e)) → downward (not s) (m * up e) (down e) < 2 ^ h → toSigned h (ceil f (fin s m e)) ≡ signed (not (not s)) (downward (not s) (m * up e) (down e))
+ceil-int : (f : Format) (h : ℕ) (s : Bool) (m : ℕ) (e : ℤ) → T (fits f (fin s m e)) → downward (not s) (m * up e) (down e) < 2 ^ h
+    → toSigned h (ceil f (fin s m e)) ≡ signed (not (not s)) (downward (not s) (m * up e) (down e))
 unfolding ceil neg
 ceil-int f h s m e t l =
     let n = downward (not s) (m * up e) (down e) in
-    int-value h (neg (floor f (fin (not s) m e))) (not (not s)) n (neg-value (floor f (fin (not s) m e)) (not s) n 1 (floor-value f (not s) m e (neg-fits f (fin s m e) t))) l
+    int-value h (neg (floor f (fin (not s) m e))) (not (not s)) n
+    (neg-value (floor f (fin (not s) m e)) (not s) n 1 (floor-value f (not s) m e (neg-fits f (fin s m e) t))) l
 
 pub ceil-bound : (f : Format) (h : ℕ) (x : Float) (k : ℕ) → T (fits f x) → Within x k 1 → k < 2 ^ h → natAbs (toSigned h (ceil f x)) ≤ k
 ceil-bound f h nan k t w l = absurd w
@@ -99,13 +105,15 @@ above-own : (s : Bool) (A D g c : ℕ) → 0 < D → A * c ≡ g * D → signed 
 above-own false A D g c P e = leZ-yes (le→leb g ((A + (D - 1)) / D * c) (units-over ((A + (D - 1)) / D) A D g c P (cut-over A D P) e))
 above-own true A D g c P e = turned (A / D * c) g (units-under (A / D) A D g c P (cut-under A D) e)
 
-pub floor-below : (f : Format) (h : ℕ) (x : Float) (k c : ℕ) (z : ℤ) → T (fits f x) → Within x k 1 → k < 2 ^ h → Is c x z → (toSigned h (floor f x) *ℤ pos c) ≤ℤ z
+pub floor-below : (f : Format) (h : ℕ) (x : Float) (k c : ℕ) (z : ℤ) → T (fits f x) → Within x k 1 → k < 2 ^ h → Is c x z
+    → (toSigned h (floor f x) *ℤ pos c) ≤ℤ z
 floor-below f h nan k c z t w l i = absurd w
 floor-below f h (inf s) k c z t w l i = absurd w
 floor-below f h (fin s m e) k c z t w l i =
     let n = downward s (m * up e) (down e) in
     let b : n ≤ k = down-le s (m * up e) (down e) k (down-pos e) w in
-    let to : toSigned h (floor f (fin s m e)) *ℤ pos c ≡ signed s (n * c) = ap (λ (v : ℤ). v *ℤ pos c) (floor-int f h s m e t (lt-of-le-of-lt b l)) ∙ signed-times s n c in
+    let to : toSigned h (floor f (fin s m e)) *ℤ pos c ≡ signed s (n * c) =
+    ap (λ (v : ℤ). v *ℤ pos c) (floor-int f h s m e t (lt-of-le-of-lt b l)) ∙ signed-times s n c in
     let is : signed s (i .size) ≡ z = ap (λ (v : Bool). signed v (i .size)) (i .value .0) ∙ i .whole in
     subst (λ (v : ℤ). v ≤ℤ z) (sym to) (subst (λ (v : ℤ). signed s (n * c) ≤ℤ v) is (below-own s (m * up e) (down e) (i .size) c (down-pos e) (i .value .1)))
 
@@ -115,6 +123,8 @@ ceil-above f h (inf s) k c z t w l i = absurd w
 ceil-above f h (fin s m e) k c z t w l i =
     let n = downward (not s) (m * up e) (down e) in
     let b : n ≤ k = down-le (not s) (m * up e) (down e) k (down-pos e) w in
-    let to : toSigned h (ceil f (fin s m e)) *ℤ pos c ≡ signed (not (not s)) (n * c) = ap (λ (v : ℤ). v *ℤ pos c) (ceil-int f h s m e t (lt-of-le-of-lt b l)) ∙ signed-times (not (not s)) n c in
+    let to : toSigned h (ceil f (fin s m e)) *ℤ pos c ≡ signed (not (not s)) (n * c) =
+    ap (λ (v : ℤ). v *ℤ pos c) (ceil-int f h s m e t (lt-of-le-of-lt b l)) ∙ signed-times (not (not s)) n c in
     let is : signed s (i .size) ≡ z = ap (λ (v : Bool). signed v (i .size)) (i .value .0) ∙ i .whole in
-    subst (λ (v : ℤ). z ≤ℤ v) (sym to) (subst (λ (v : ℤ). v ≤ℤ signed (not (not s)) (n * c)) is (above-own s (m * up e) (down e) (i .size) c (down-pos e) (i .value .1)))
+    subst (λ (v : ℤ). z ≤ℤ v) (sym to)
+    (subst (λ (v : ℤ). v ≤ℤ signed (not (not s)) (n * c)) is (above-own s (m * up e) (down e) (i .size) c (down-pos e) (i .value .1)))

@@ -14,7 +14,8 @@ use Rattle.float.specs.Fraction.{value→zero}
 mul-cross : (M N E D a b c d : ℕ) → M * c ≡ a * E → N * d ≡ b * D → M * N * (c * d) ≡ a * b * (E * D)
 mul-cross M N E D a b c d p q = mul-mul-mul-comm M N c d ∙ ap (λ (z : ℕ). z * (N * d)) p ∙ ap (λ (z : ℕ). a * E * z) q ∙ mul-mul-mul-comm a E b D
 
-pub mul-value-at : (f : Format) (x y : Float) (s t : Bool) (a c b d : ℕ) → 0 < c → 0 < d → HasValue x s a c → HasValue y t b d → mul f x y ≡ round f (unlike s t) (a * b) (c * d)
+pub mul-value-at : (f : Format) (x y : Float) (s t : Bool) (a c b d : ℕ) → 0 < c → 0 < d → HasValue x s a c → HasValue y t b d
+    → mul f x y ≡ round f (unlike s t) (a * b) (c * d)
 unfolding mul
 mul-value-at f nan y s t a c b d C D h k = absurd h
 mul-value-at f (inf u) y s t a c b d C D h k = absurd h
@@ -28,10 +29,12 @@ mul-value-at f (fin u m e) (fin v n g) s t a c b d C D h k =
 
 div-cross : (M N E D a b c d : ℕ) → M * c ≡ a * E → N * d ≡ b * D → M * D * (c * b) ≡ a * d * (N * E)
 div-cross M N E D a b c d p q =
-    mul-mul-mul-comm M D c b ∙ ap (λ (z : ℕ). z * (D * b)) p ∙ ap (λ (z : ℕ). a * E * z) (mul-comm D b ∙ sym q ∙ mul-comm N d) ∙ mul-mul-mul-comm a E d N ∙ ap (λ (z : ℕ). a * d * z) (mul-comm E N)
+    mul-mul-mul-comm M D c b ∙ ap (λ (z : ℕ). z * (D * b)) p ∙ ap (λ (z : ℕ). a * E * z) (mul-comm D b ∙ sym q ∙ mul-comm N d) ∙ mul-mul-mul-comm a E d N
+    ∙ ap (λ (z : ℕ). a * d * z) (mul-comm E N)
 
 -- by b / d, which is not zero
-pub div-value-at : (f : Format) (x y : Float) (s t : Bool) (a c b d : ℕ) → 0 < c → 0 < b → 0 < d → HasValue x s a c → HasValue y t b d → div f x y ≡ round f (unlike s t) (a * d) (c * b)
+pub div-value-at : (f : Format) (x y : Float) (s t : Bool) (a c b d : ℕ) → 0 < c → 0 < b → 0 < d → HasValue x s a c → HasValue y t b d
+    → div f x y ≡ round f (unlike s t) (a * d) (c * b)
 unfolding div
 div-value-at f nan y s t a c b d C B D h k = absurd h
 div-value-at f (inf u) y s t a c b d C B D h k = absurd h
@@ -48,7 +51,8 @@ div-value-at f (fin u m e) (fin v n g) s t a c b d C B D h k =
     n-pos : 0 < n
     n-pos = lt-of-not-le (λ (l : n ≤ 0). none (let z : n ≡ 0 = omega arith in z))
 
-    go : (q : Bool) → (T q → n ≡ 0) → cond q (cond (eqb m 0) nan (inf (unlike s t))) (round f (unlike s t) (m * up e * down g) (n * up g * down e)) ≡ round f (unlike s t) (a * d) (c * b)
+    go : (q : Bool) → (T q → n ≡ 0)
+        → cond q (cond (eqb m 0) nan (inf (unlike s t))) (round f (unlike s t) (m * up e * down g) (n * up g * down e)) ≡ round f (unlike s t) (a * d) (c * b)
     go true z = absurd (none (z tt))
     go false z =
         round-same f (unlike s t) (m * up e * down g) (n * up g * down e) (a * d) (c * b) (mul-pos (mul-pos n-pos (up-pos g)) (down-pos e)) (mul-pos C B)

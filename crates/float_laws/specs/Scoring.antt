@@ -8,7 +8,8 @@ use Rattle.float_laws.specs.Values.{Is}
 use Rattle.float_laws.specs.Exact.{is-add, is-lt, inf-add, inf-lt, lt-inf}
 use Rattle.float_laws.specs.Score.{Score, out, at, Scored, plus, ltS, Bounded}
 
-pub scored-add : (f : Format) (l : ℕ) (x y : Float) (s : Score) (w : ℤ) → l ≤ low f → Scored (2 ^ l) x s → Is (2 ^ l) y w → Bounded (2 ^ prec f) (plus s w) → Scored (2 ^ l) (add f x y) (plus s w)
+pub scored-add : (f : Format) (l : ℕ) (x y : Float) (s : Score) (w : ℤ) → l ≤ low f → Scored (2 ^ l) x s → Is (2 ^ l) y w → Bounded (2 ^ prec f) (plus s w)
+    → Scored (2 ^ l) (add f x y) (plus s w)
 scored-add f l x y out w L h k b = ap (λ (z : Float). add f z y) h ∙ inf-add f true k
 scored-add f l x y (at z) w L h k b = is-add f l L h k b
 

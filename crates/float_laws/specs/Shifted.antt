@@ -1,4 +1,6 @@
--- A format holds n * 2 ^ k / 2 ^ l for n up to 2 ^ prec, where the result stays below the overflow: a bound beyond the format's whole numbers is a small one times a power of two. `Room f n a c`: it holds the first n multiples of a / c, as a sum of n terms needs. Generic over the format.
+-- A format holds n * 2 ^ k / 2 ^ l for n up to 2 ^ prec, where the result stays below the overflow: a bound beyond the format's
+-- whole numbers is a small one times a power of two. `Room f n a c`: it holds the first n multiples of a / c, as a sum of n
+-- terms needs. Generic over the format.
 use mathlib.Core.Path.{_≡_, sym, ap, _∙_, subst}
 use mathlib.Core.Logic.{inl, inr}
 use mathlib.Core.Bool.{false}
@@ -26,7 +28,8 @@ holds-shifted f n k l L K h =
     ap (λ (z : ℕ). 2 ^ k * z) (sym (ap (λ (z : ℕ). 2 ^ z) (back (low f) l L)) ∙ pow-add 2 j l)
     ∙ sym (mul-assoc (2 ^ k) (2 ^ j) (2 ^ l))
     ∙ ap (λ (z : ℕ). z * 2 ^ l) (sym (pow-add 2 k j)) in
-    let whole : n * 2 ^ k * 2 ^ low f ≡ n * 2 ^ (k + j) * 2 ^ l = mul-assoc n (2 ^ k) (2 ^ low f) ∙ ap (λ (z : ℕ). n * z) split ∙ sym (mul-assoc n (2 ^ (k + j)) (2 ^ l)) in
+    let whole : n * 2 ^ k * 2 ^ low f ≡ n * 2 ^ (k + j) * 2 ^ l =
+    mul-assoc n (2 ^ k) (2 ^ low f) ∙ ap (λ (z : ℕ). n * z) split ∙ sym (mul-assoc n (2 ^ (k + j)) (2 ^ l)) in
     let rm : prec f + (k + j) < low f + suc (emax f) = room (prec f) k j l (low f) (emax f) (back (low f) l L) K in
     elim (eq-or-lt-of-le h) [
       | inl e ↦
@@ -45,7 +48,8 @@ abbrev pub Room : Format → ℕ → ℕ → ℕ → Type 0
 Room f n a c = (i : ℕ) → i ≤ n → Holds f (i * a) c
 
 pub room-shifted : (f : Format) (n m k l : ℕ) → l ≤ low f → prec f + k ≤ emax f → n * m ≤ 2 ^ prec f → Room f n (m * 2 ^ k) (2 ^ l)
-room-shifted f n m k l L K N i I = subst (λ (z : ℕ). Holds f z (2 ^ l)) (mul-assoc i m (2 ^ k)) (holds-shifted f (i * m) k l L K (le-trans (mul-le-mul-right m I) N))
+room-shifted f n m k l L K N i I =
+    subst (λ (z : ℕ). Holds f z (2 ^ l)) (mul-assoc i m (2 ^ k)) (holds-shifted f (i * m) k l L K (le-trans (mul-le-mul-right m I) N))
 
 pub room-power : (f : Format) (n k : ℕ) → prec f + k ≤ emax f → n ≤ 2 ^ prec f → Room f n (2 ^ k) 1
 room-power f n k K N i I = holds-power f i k K (le-trans I N)

@@ -17,7 +17,9 @@ use Rattle.float.specs.Known.{known}
 
 -- the order of two sizes, as the comparison of two values of one sign has it
 at-most→ : (s : Bool) (a b : ℕ) → T (ltb a b || (eqb (cond s b a) (cond s a b) && true)) → a ≤ b
-at-most→ s a b t = elim (or-split (ltb a b) (eqb (cond s b a) (cond s a b) && true) t) [ inl u ↦ le-of-lt (ltb→lt a b u) | inr u ↦ same s (eqb→eq (cond s b a) (cond s a b) (and-l (eqb (cond s b a) (cond s a b)) true u)) ]
+at-most→ s a b t = elim
+    (or-split (ltb a b) (eqb (cond s b a) (cond s a b) && true) t)
+    [ inl u ↦ le-of-lt (ltb→lt a b u) | inr u ↦ same s (eqb→eq (cond s b a) (cond s a b) (and-l (eqb (cond s b a) (cond s a b)) true u)) ]
   where
     same : (s : Bool) → cond s b a ≡ cond s a b → a ≤ b
     same true e = le-of-eq (sym e)
@@ -68,5 +70,7 @@ within-unit x h = true-of (le (minus-two-to 0) x && le x (two-to 0)) (go x h)
     go : (x : Float) → Within x 1 1 → T (le (minus-two-to 0) x && le x (two-to 0))
     go nan w = absurd w
     go (inf s) w = absurd w
-    go (fin false m e) w = and-i (le (minus-two-to 0) (fin false m e)) (le (fin false m e) (two-to 0)) (above-minus-one m e) (→at-most false (m * up e * 1) (1 * 1 * down e) w)
-    go (fin true m e) w = and-i (le (minus-two-to 0) (fin true m e)) (le (fin true m e) (two-to 0)) (→at-most true (m * up e * 1) (1 * 1 * down e) w) (below-one m e)
+    go (fin false m e) w =
+        and-i (le (minus-two-to 0) (fin false m e)) (le (fin false m e) (two-to 0)) (above-minus-one m e) (→at-most false (m * up e * 1) (1 * 1 * down e) w)
+    go (fin true m e) w =
+        and-i (le (minus-two-to 0) (fin true m e)) (le (fin true m e) (two-to 0)) (→at-most true (m * up e * 1) (1 * 1 * down e) w) (below-one m e)

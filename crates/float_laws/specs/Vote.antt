@@ -1,9 +1,11 @@
--- 1 - 4 min(r, 1 - r), with r = x - floor x, lies from -1 to 1 at every finite x, and so does the mean of four values that do: a block's vote. Generic over the format.
+-- 1 - 4 min(r, 1 - r), with r = x - floor x, lies from -1 to 1 at every finite x, and so does the mean of four values that do:
+-- a block's vote. Generic over the format.
 use mathlib.Core.Path.{_≡_, refl, sym, ap, _∙_, subst}
 use mathlib.Core.Logic.{_⊎_, inl, inr}
 use mathlib.Core.Bool.{Bool, true, false, not, _&&_, cond, true≢false}
 use Prim.Native.Nat.{ℕ, _+_, _-_, _*_, _/_, _^_, _≤_, _<_}
-use native.Mathlib.Nat.{le-refl, le-of-lt, le-trans, le-of-eq, zero-lt-suc, mul-one, one-mul, mul-right-comm, mul-le-mul-right, le-of-mul-le-mul-right, div-mul-le-self, lt-div-mul-add}
+use native.Mathlib.Nat.{le-refl, le-of-lt, le-trans, le-of-eq, zero-lt-suc, mul-one, one-mul, mul-right-comm, mul-le-mul-right}
+use native.Mathlib.Nat.{le-of-mul-le-mul-right, div-mul-le-self, lt-div-mul-add}
 use native.Mathlib.Omega.{arith}
 use lib.IntN.{ℤ}
 use lib.Dec.{T, ltb, leb, ltb→lt, nltb→le, leb→le, nleb→lt, lit≤}
@@ -44,7 +46,8 @@ upto-of (fin t m e) g l a c h k = (h .0, k)
 round-upto : (f : Format) (n d a c : ℕ) → 0 < d → 0 < c → Holds f a c → n * c ≤ a * d → Upto (round f false n d) a c
 round-upto f n d a c D C H h =
     let w : Within (round f false n d) a c = round-within f false n d a c D C H h in
-    elim (round-shape f false n d) [ inl e ↦ absurd (subst (λ (z : Float). Within z a c) e w) | inr v ↦ upto-of (round f false n d) (grid f n d) (2 ^ low f) a c v w ]
+    elim (round-shape f false n d)
+    [ inl e ↦ absurd (subst (λ (z : Float). Within z a c) e w) | inr v ↦ upto-of (round f false n d) (grid f n d) (2 ^ low f) a c v w ]
 
 small-whole : (f : Format) (n : ℕ) → n ≤ 4 → Holds f n 1
 small-whole f n h = holds-whole f n (le-trans h (at-least f))
@@ -87,10 +90,12 @@ fraction-is f true a c C =
       denom = c;
       denom-pos = C;
       proper = omega arith;
-      is = go ((a + (c - 1)) / c * c) l (ltb a ((a + (c - 1)) / c * c)) (ltb ((a + (c - 1)) / c * c) a) (ltb→lt ((a + (c - 1)) / c * c) a) (nltb→le a ((a + (c - 1)) / c * c));
+      is = go ((a + (c - 1)) / c * c) l (ltb a ((a + (c - 1)) / c * c)) (ltb ((a + (c - 1)) / c * c) a) (ltb→lt ((a + (c - 1)) / c * c) a)
+          (nltb→le a ((a + (c - 1)) / c * c));
     }
   where
-    go : (w : ℕ) → a ≤ w → (b d : Bool) → (T d → w < a) → (T (not b) → w ≤ a) → cond b (round f false (w - a) c) (round f (true && d) (a - w) c) ≡ round f false (w - a) c
+    go : (w : ℕ) → a ≤ w → (b d : Bool) → (T d → w < a) → (T (not b) → w ≤ a)
+        → cond b (round f false (w - a) c) (round f (true && d) (a - w) c) ≡ round f false (w - a) c
     go w l true d p q = refl
     go w l false true p q = absurd (native.Mathlib.Nat.not-le-of-lt (p tt) l)
     go w l false false p q = ap (λ (z : ℕ). round f false z c) (let k : w ≤ a = q tt in let z : a - w ≡ w - a = omega arith in z)
@@ -102,8 +107,10 @@ frac f (fin s m e) t h =
     let a = m * up e in
     let c = down e in
     let N = downward s a c in
-    let v : HasValue (floor f (fin s m e)) s (N * c) c = subst (λ (z : ℕ). HasValue (floor f (fin s m e)) s (N * c) z) (one-mul c) (value-scale (floor f (fin s m e)) s N 1 c (floor-value f s m e t)) in
-    subst (λ (z : Float). Frac f z) (sym (sub-at f (fin s m e) (floor f (fin s m e)) s s a (N * c) c (down-pos e) (refl, refl) v)) (fraction-is f s a c (down-pos e))
+    let v : HasValue (floor f (fin s m e)) s (N * c) c =
+    subst (λ (z : ℕ). HasValue (floor f (fin s m e)) s (N * c) z) (one-mul c) (value-scale (floor f (fin s m e)) s N 1 c (floor-value f s m e t)) in
+    subst (λ (z : Float). Frac f z) (sym (sub-at f (fin s m e) (floor f (fin s m e)) s s a (N * c) c (down-pos e) (refl, refl) v))
+    (fraction-is f s a c (down-pos e))
 
 frac-upto : (f : Format) (r : Float) → Frac f r → Upto r 1 1
 frac-upto f r h =
@@ -116,7 +123,8 @@ one-is : (c : ℕ) → HasValue one false c c
 one-is c = (refl, one-mul c ∙ sym (mul-one c))
 
 one-minus : (f : Format) (m : ℕ) (e : ℤ) → m * up e ≤ down e → sub f one (fin false m e) ≡ round f false (down e - m * up e) (down e)
-one-minus f m e h = sub-at f one (fin false m e) false false (down e) (m * up e) (down e) (down-pos e) (one-is (down e)) (refl, refl) ∙ minus-at-most f (down e) (m * up e) (down e) h
+one-minus f m e h = sub-at f one (fin false m e) false false (down e) (m * up e) (down e) (down-pos e) (one-is (down e)) (refl, refl)
+    ∙ minus-at-most f (down e) (m * up e) (down e) h
 
 at-most-one : (a c : ℕ) → a * 1 ≤ 1 * c → a ≤ c
 at-most-one a c h = omega arith
@@ -186,13 +194,16 @@ halves f (fin false m e) h =
     let c = down e in
     let l : a ≤ c = at-most-one a c (h .1) in
     let q : sub f one (fin false m e) ≡ round f false (c - a) c = one-minus f m e l in
-    let Q : Upto (sub f one (fin false m e)) 1 1 = subst (λ (z : Float). Upto z 1 1) (sym q) (round-upto f (c - a) c 1 1 (down-pos e) (zero-lt-suc 0) (small-whole f 1 (lit≤ tt)) (omega arith)) in
+    let Q : Upto (sub f one (fin false m e)) 1 1 =
+    subst (λ (z : Float). Upto z 1 1) (sym q) (round-upto f (c - a) c 1 1 (down-pos e) (zero-lt-suc 0) (small-whole f 1 (lit≤ tt)) (omega arith)) in
     least-upto (fin false m e) (sub f one (fin false m e)) 1 1 1 1 1 2 h Q (go (leb (a * 2) c) (leb→le (a * 2) c) (nleb→lt (a * 2) c) q)
   where
-    go : (b : Bool) → (T b → m * up e * 2 ≤ down e) → (T (not b) → down e < m * up e * 2) → sub f one (fin false m e) ≡ round f false (down e - m * up e) (down e)
+    go : (b : Bool) → (T b → m * up e * 2 ≤ down e) → (T (not b) → down e < m * up e * 2)
+        → sub f one (fin false m e) ≡ round f false (down e - m * up e) (down e)
         → Upto (fin false m e) 1 2 ⊎ Upto (sub f one (fin false m e)) 1 2
     go true p n q = inl (refl, le-trans (p tt) (le-of-eq (sym (one-mul (down e)))))
-    go false p n q = inr (subst (λ (z : Float). Upto z 1 2) (sym q) (round-upto f (down e - m * up e) (down e) 1 2 (down-pos e) (zero-lt-suc 1) (half-holds f) (twice-le (m * up e) (down e) (n tt))))
+    go false p n q = inr (subst (λ (z : Float). Upto z 1 2) (sym q)
+        (round-upto f (down e - m * up e) (down e) 1 2 (down-pos e) (zero-lt-suc 1) (half-holds f) (twice-le (m * up e) (down e) (n tt))))
 
 -- ---- four times that, and 1 less that
 
@@ -204,8 +215,10 @@ fourfold f nan k = absurd k
 fourfold f (inf s) k = absurd k
 fourfold f (fin true m e) k = absurd (true≢false (k .0))
 fourfold f (fin false m e) k =
-    subst (λ (z : Float). Upto z 2 1) (sym (mul-value-at f four (fin false m e) false false 4 1 (m * up e) (down e) (zero-lt-suc 0) (down-pos e) (refl, refl) (refl, refl)))
-    (round-upto f (4 * (m * up e)) (1 * down e) 2 1 (subst (λ (z : ℕ). 0 < z) (sym (one-mul (down e))) (down-pos e)) (zero-lt-suc 0) (small-whole f 2 (lit≤ tt)) (four-le (m * up e) (down e) (k .1)))
+    subst (λ (z : Float). Upto z 2 1)
+    (sym (mul-value-at f four (fin false m e) false false 4 1 (m * up e) (down e) (zero-lt-suc 0) (down-pos e) (refl, refl) (refl, refl)))
+    (round-upto f (4 * (m * up e)) (1 * down e) 2 1 (subst (λ (z : ℕ). 0 < z) (sym (one-mul (down e))) (down-pos e)) (zero-lt-suc 0)
+    (small-whole f 2 (lit≤ tt)) (four-le (m * up e) (down e) (k .1)))
 
 apart : (f : Format) (c b : ℕ) → 0 < c → b ≤ 2 * c → Within (sum f false c true b c) 1 1
 unfolding sum
@@ -220,12 +233,14 @@ one-less f nan k = absurd k
 one-less f (inf s) k = absurd k
 one-less f (fin true m e) k = absurd (true≢false (k .0))
 one-less f (fin false m e) k =
-    subst (λ (z : Float). Within z 1 1) (sym (sub-at f one (fin false m e) false false (down e) (m * up e) (down e) (down-pos e) (one-is (down e)) (refl, refl)))
+    subst (λ (z : Float). Within z 1 1)
+    (sym (sub-at f one (fin false m e) false false (down e) (m * up e) (down e) (down-pos e) (one-is (down e)) (refl, refl)))
     (apart f (down e) (m * up e) (down-pos e) (le-trans (le-of-eq (sym (mul-one (m * up e)))) (k .1)))
 
 -- ---- the term, and the mean of four
 
-pub term-within : (f : Format) (x : Float) → T (fits f x) → T (finite x) → let r = sub f x (floor f x) in Within (sub f one (mul f four (smaller r (sub f one r)))) 1 1
+pub term-within : (f : Format) (x : Float) → T (fits f x) → T (finite x) → let r = sub f x (floor f x) in
+    Within (sub f one (mul f four (smaller r (sub f one r)))) 1 1
 term-within f x t h =
     let r = sub f x (floor f x) in
     one-less f (mul f four (smaller r (sub f one r))) (fourfold f (smaller r (sub f one r)) (halves f r (frac-upto f r (frac f x t h))))
@@ -234,7 +249,8 @@ pub mean-within : (f : Format) (t : ℕ → Float) → ((k : ℕ) → k < 4 → 
 mean-within f t h =
     let total = sumTo (add f) zero- 4 t in
     let w : Within total 4 1 = sum-to-within f zero- t 4 1 0 1 (zero-lt-suc 0) (λ i l. small-whole f (0 + i * 1) (omega arith)) (le-refl 0) h in
-    within-more (div f total four) 4 4 1 1 (zero-lt-suc 3) (div-within f total four false 4 1 4 1 (zero-lt-suc 0) (zero-lt-suc 3) (zero-lt-suc 0) (quarter f) w (refl, refl)) (le-refl 4)
+    within-more (div f total four) 4 4 1 1 (zero-lt-suc 3)
+    (div-within f total four false 4 1 4 1 (zero-lt-suc 0) (zero-lt-suc 3) (zero-lt-suc 0) (quarter f) w (refl, refl)) (le-refl 4)
   where
     quarter : (g : Format) → Holds g 4 4
     quarter binary32 = holds-scaled binary32 4 2 (lit≤ tt) (lit≤ tt)

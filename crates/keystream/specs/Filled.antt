@@ -18,14 +18,16 @@ module _ {A : Type 0} where
   filled-rest f n d = drop-at (tab f n) (drop n d) n (length-tab f n)
 
   -- n places more at once
-  pub filled-part : (f g : ℕ → A) (a n : ℕ) (d : List A) → ((k : ℕ) → k < n → g k ≡ f (a + k)) → take a (filled f a d) ++ (tab g n ++ drop n (drop a d)) ≡ filled f (a + n) d
+  pub filled-part : (f g : ℕ → A) (a n : ℕ) (d : List A) → ((k : ℕ) → k < n → g k ≡ f (a + k))
+      → take a (filled f a d) ++ (tab g n ++ drop n (drop a d)) ≡ filled f (a + n) d
   unfolding filled
   filled-part f g a n d h =
       let front : take a (tab f a ++ drop a d) ≡ tab f a = take-at (tab f a) (drop a d) a (length-tab f a) in
       rw (front, drop-drop n a d, tab-same g (λ k. f (a + k)) n h, tab-append f a n) (sym (append-assoc (tab f a) (tab (λ k. f (a + k)) n) (drop (a + n) d)))
 
   -- a turn of a loop that puts each place through g
-  pub filled-step : (g : ℕ → A → A) (n : ℕ) (d s : List A) (z : A) → n < length d → s ≡ filled (λ k. g k (getD d k z)) n d → set s n (g n (getD s n z)) ≡ filled (λ k. g k (getD d k z)) (n + 1) d
+  pub filled-step : (g : ℕ → A → A) (n : ℕ) (d s : List A) (z : A) → n < length d → s ≡ filled (λ k. g k (getD d k z)) n d
+      → set s n (g n (getD s n z)) ≡ filled (λ k. g k (getD d k z)) (n + 1) d
   filled-step g n d s z h e =
       let f : ℕ → A = λ k. g k (getD d k z) in
       rw (e, filled-next f n d z h) (filled-more f n d h)

@@ -65,7 +65,8 @@ xor-twice : (a b : ℕ) → bitXor (bitXor a b) b ≡ a
 xor-twice =
     bin-ind (λ (a : ℕ). (b : ℕ) → bitXor (bitXor a b) b ≡ a) xor-self
     (λ a again b.
-    let digit : (differ (a % 2) (b % 2) < 2) × (differ (differ (a % 2) (b % 2)) (b % 2) ≡ a % 2) = differ-twice (a % 2) (b % 2) (mod-lt a (lit< tt)) (mod-lt b (lit< tt)) in
+    let digit : (differ (a % 2) (b % 2) < 2) × (differ (differ (a % 2) (b % 2)) (b % 2) ≡ a % 2) =
+    differ-twice (a % 2) (b % 2) (mod-lt a (lit< tt)) (mod-lt b (lit< tt)) in
     let odd : bitXor a b % 2 ≡ differ (a % 2) (b % 2) = ap (λ (n : ℕ). n % 2) (xor-step a b) ∙ digits-mod (bitXor (a / 2) (b / 2)) (digit .0) in
     xor-step (bitXor a b) b
     ∙ (ap₂ (λ (x y : ℕ). bitXor x (b / 2) * 2 + differ y (b % 2)) (xor-shr a b 1) odd
@@ -88,7 +89,8 @@ module _ (key nonce : List ℕ) where
       (λ k h.
       let k₁ : k < length once = rw (length-encrypted p once) at h in
       let k₀ : k < length bs = rw (length-encrypted p bs) at k₁ in
-      getD-encrypted p once k k₁ ∙ (ap (λ (b : ℕ). bitXor b (keystream key nonce (p + k))) (getD-encrypted p bs k k₀) ∙ xor-twice (getD bs k 0) (keystream key nonce (p + k))))
+      getD-encrypted p once k k₁
+      ∙ (ap (λ (b : ℕ). bitXor b (keystream key nonce (p + k))) (getD-encrypted p bs k k₀) ∙ xor-twice (getD bs k 0) (keystream key nonce (p + k))))
 
   -- a list in two parts, the second from the position after the first
   encrypted-append : (p : ℕ) (xs ys : List ℕ) → encrypted key nonce p (xs ++ ys) ≡ encrypted key nonce p xs ++ encrypted key nonce (p + length xs) ys
@@ -116,7 +118,9 @@ module _ (key nonce : List ℕ) where
           | no h ↦ let few : leftAt p < length bs = omega arith in rw (after-end key nonce p bs few) (after-end key nonce p bs few)
         ]
 
-  pub apply-append : (p : ℕ) (xs ys : List ℕ) → length (xs ++ ys) ≤ leftAt p → bytesAfter key nonce p (xs ++ ys) ≡ bytesAfter key nonce p xs ++ bytesAfter key nonce (p + length xs) ys
+  pub apply-append : (p : ℕ) (xs ys : List ℕ) → length (xs ++ ys) ≤ leftAt p
+      → bytesAfter key nonce p (xs ++ ys) ≡ bytesAfter key nonce p xs ++ bytesAfter key nonce (p + length xs) ys
   apply-append p xs ys h =
       let sum : length (xs ++ ys) ≡ length xs + length ys = length-append xs ys in
-      rw (after-next key nonce p (xs ++ ys) h, after-next key nonce p xs (omega arith), after-next key nonce (p + length xs) ys (omega arith)) (encrypted-append p xs ys)
+      rw (after-next key nonce p (xs ++ ys) h, after-next key nonce p xs (omega arith), after-next key nonce (p + length xs) ys (omega arith))
+      (encrypted-append p xs ys)

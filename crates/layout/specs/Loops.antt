@@ -44,14 +44,17 @@ module _ (f : ℕ → ℕ) where
       go true e = let l = ltb-true (placeOf b) j e in rw (e, lt-ltb (placeOf b) (j + 1) (omega arith)) refl
       go false e =
           let l = ltb-false (placeOf b) j e in
-          let m : j + 1 ≤ placeOf b = (elim (native.Mathlib.Nat.eq-or-lt-of-le l) [ inl q ↦ absurd (apart (sym q)) | inr q ↦ (let z : j + 1 ≤ placeOf b = omega arith in z) ]) in
+          let m : j + 1 ≤ placeOf b =
+          (elim (native.Mathlib.Nat.eq-or-lt-of-le l) [ inl q ↦ absurd (apart (sym q)) | inr q ↦ (let z : j + 1 ≤ placeOf b = omega arith in z) ]) in
           rw (e, le-ltb (placeOf b) (j + 1) m) refl
 
   pub scatter-more : (j : ℕ) → j < blockCount → set (scattered j) (blockOf j) (f j) ≡ scattered (j + 1)
   unfolding scattered
-  scatter-more j h = ext-getD 0 (set (tab (at j) blockCount) (blockOf j) (f j)) (tab (at (j + 1)) blockCount) (length-set (tab (at j) blockCount) (blockOf j) (f j) ∙ length-tab (at j) blockCount ∙ sym (length-tab (at (j + 1)) blockCount)) same
+  scatter-more j h = ext-getD 0 (set (tab (at j) blockCount) (blockOf j) (f j)) (tab (at (j + 1)) blockCount)
+      (length-set (tab (at j) blockCount) (blockOf j) (f j) ∙ length-tab (at j) blockCount ∙ sym (length-tab (at (j + 1)) blockCount)) same
     where
-      same : (b : ℕ) → b < length (set (tab (at j) blockCount) (blockOf j) (f j)) → getD (set (tab (at j) blockCount) (blockOf j) (f j)) b 0 ≡ getD (tab (at (j + 1)) blockCount) b 0
+      same : (b : ℕ) → b < length (set (tab (at j) blockCount) (blockOf j) (f j))
+          → getD (set (tab (at j) blockCount) (blockOf j) (f j)) b 0 ≡ getD (tab (at (j + 1)) blockCount) b 0
       same b l =
           let B : b < blockCount = omega (arith, length-set (tab (at j) blockCount) (blockOf j) (f j), length-tab (at j) blockCount) in
           go b B (eqb b (blockOf j)) refl ∙ sym (getD-tab (at (j + 1)) blockCount b 0 B)
@@ -68,11 +71,13 @@ module _ (f : ℕ → ℕ) where
 
   pub scatter-none : replicate blockCount 0 ≡ scattered 0
   unfolding scattered at
-  scatter-none = sym (tab-same (at 0) (λ (b : ℕ). 0) blockCount (λ b h. ap (λ (t : Bool). cond t (f (placeOf b)) 0) (le-ltb (placeOf b) 0 (omega arith))) ∙ tab-replicate 0 blockCount)
+  scatter-none = sym (tab-same (at 0) (λ (b : ℕ). 0) blockCount (λ b h. ap (λ (t : Bool). cond t (f (placeOf b)) 0) (le-ltb (placeOf b) 0 (omega arith)))
+      ∙ tab-replicate 0 blockCount)
 
   pub scatter-all : scattered blockCount ≡ tab (λ b. f (placeOf b)) blockCount
   unfolding scattered at
-  scatter-all = tab-same (at blockCount) (λ b. f (placeOf b)) blockCount (λ b h. ap (λ (t : Bool). cond t (f (placeOf b)) 0) (lt-ltb (placeOf b) blockCount (layout-undo .bo b h)))
+  scatter-all = tab-same (at blockCount) (λ b. f (placeOf b)) blockCount
+      (λ b h. ap (λ (t : Bool). cond t (f (placeOf b)) 0) (lt-ltb (placeOf b) blockCount (layout-undo .bo b h)))
 
 pub laid-all : (p : ℕ) (coded : List ℕ) → scattered (λ j. getD coded (j % p) 0) blockCount ≡ blockBits p coded
 unfolding blockBits
@@ -84,4 +89,5 @@ pub gather-more : (p j n : ℕ) (l : ℕ → ℕ) (votes soft : List Float) → 
 unfolding gather through
 gather-more p j n l votes soft h e =
     rw (e, add-one j)
-    (ap (λ (x : Float). set (gatherF p j (tab (λ j. getD votes (l j) nan) n)) (j % p) (add binary32 (getD (gatherF p j (tab (λ j. getD votes (l j) nan) n)) (j % p) nan) x)) (sym (getD-tab (λ j. getD votes (l j) nan) n j nan h)))
+    (ap (λ (x : Float). set (gatherF p j (tab (λ j. getD votes (l j) nan) n)) (j % p)
+    (add binary32 (getD (gatherF p j (tab (λ j. getD votes (l j) nan) n)) (j % p) nan) x)) (sym (getD-tab (λ j. getD votes (l j) nan) n j nan h)))

@@ -24,7 +24,8 @@ module _ {A : Type 0} (blank begun : A) (plus : A → A → A) where
   pub gather-length : (p n : ℕ) (us : List A) → length (gather blank begun plus p n us) ≡ p
   unfolding gather
   gather-length p zero us = length-replicate p begun
-  gather-length p (suc j) us = length-set (gather blank begun plus p j us) (j % p) (plus (getD (gather blank begun plus p j us) (j % p) blank) (getD us j blank)) ∙ gather-length p j us
+  gather-length p (suc j) us =
+      length-set (gather blank begun plus p j us) (j % p) (plus (getD (gather blank begun plus p j us) (j % p) blank) (getD us j blank)) ∙ gather-length p j us
 
   -- the sum of the votes of coded bit k's places among the first n, in rising j
   unfoldable pub placeSum : ℕ → List A → ℕ → ℕ → A
@@ -41,10 +42,12 @@ module _ {A : Type 0} (blank begun : A) (plus : A → A → A) where
       v = plus (getD (gather blank begun plus p j us) (j % p) blank) (getD us j blank)
 
       go : (t : Bool) → eqb (j % p) k ≡ t → getD (gather blank begun plus p j us) k blank ≡ placeSum p us k j
-          → getD (set (gather blank begun plus p j us) (j % p) v) k blank ≡ cond (eqb (j % p) k) (plus (placeSum p us k j) (getD us j blank)) (placeSum p us k j)
+          → getD (set (gather blank begun plus p j us) (j % p) v) k blank
+          ≡ cond (eqb (j % p) k) (plus (placeSum p us k j) (getD us j blank)) (placeSum p us k j)
       go true e i =
           let q : j % p ≡ k = eqb-true (j % p) k e in
-          rw (e, q) (getD-set-same (gather blank begun plus p j us) k (plus (getD (gather blank begun plus p j us) k blank) (getD us j blank)) blank (rw (gather-length p j us) h) ∙ ap (λ (x : A). plus x (getD us j blank)) i)
+          rw (e, q) (getD-set-same (gather blank begun plus p j us) k (plus (getD (gather blank begun plus p j us) k blank) (getD us j blank)) blank
+          (rw (gather-length p j us) h) ∙ ap (λ (x : A). plus x (getD us j blank)) i)
       go false e i = rw e (getD-set-other (gather blank begun plus p j us) (j % p) k v blank (λ q. eqb-false (j % p) k e (sym q)) ∙ i)
 
 -- ---- the first edition: coded bits 0 to 275 stand in two places, the others in one
@@ -78,13 +81,15 @@ module _ {A : Type 0} (blank begun : A) (plus : A → A → A) (us : List A) (k 
       ap S (let e : blockCount ≡ suc (k + codedBits) + (275 - k) = omega arith in e)
       ∙ stay (suc (k + codedBits)) (275 - k) (λ i p q e. omega arith)
       ∙ take-in (k + codedBits) (let e : (k + codedBits) % codedBits ≡ k = omega arith in e)
-      ∙ ap (λ (x : A). plus x (getD us (k + codedBits) blank)) (ap S (let e : k + codedBits ≡ suc k + 747 = omega arith in e) ∙ stay (suc k) 747 (λ i p q e. omega arith) ∙ to-first)
+      ∙ ap (λ (x : A). plus x (getD us (k + codedBits) blank))
+      (ap S (let e : k + codedBits ≡ suc k + 747 = omega arith in e) ∙ stay (suc k) 747 (λ i p q e. omega arith) ∙ to-first)
 
   pub gather-once : 276 ≤ k → getD (gather blank begun plus codedBits blockCount us) k blank ≡ plus begun (getD us k blank)
   unfolding S
   gather-once h = gather-at blank begun plus codedBits blockCount us k K ∙ once h
 
-  pub gather-twice : k < 276 → getD (gather blank begun plus codedBits blockCount us) k blank ≡ plus (plus begun (getD us k blank)) (getD us (k + codedBits) blank)
+  pub gather-twice : k < 276
+      → getD (gather blank begun plus codedBits blockCount us) k blank ≡ plus (plus begun (getD us k blank)) (getD us (k + codedBits) blank)
   unfolding S
   gather-twice h = gather-at blank begun plus codedBits blockCount us k K ∙ twice h
 
@@ -120,7 +125,8 @@ module _ (cs : List ℕ) (k : ℕ) (K : k < codedBits) where
   sure-twice : k < 276 → getD (gatherF codedBits blockCount (surePlaces cs)) k nan ≡ sureTwice (getD cs k 0)
   sure-twice h =
       gather-twice nan (fin false 0 (pos 0)) (add binary32) (surePlaces cs) k K h
-      ∙ ap₂ (λ (x y : Float). add binary32 (add binary32 (fin false 0 (pos 0)) x) y) (sure-at k (omega arith) (mod-eq-of-lt K)) (sure-at (k + codedBits) (omega arith) (let e : (k + codedBits) % codedBits ≡ k = omega arith in e))
+      ∙ ap₂ (λ (x y : Float). add binary32 (add binary32 (fin false 0 (pos 0)) x) y) (sure-at k (omega arith) (mod-eq-of-lt K))
+      (sure-at (k + codedBits) (omega arith) (let e : (k + codedBits) % codedBits ≡ k = omega arith in e))
       ∙ ap (λ (x : Float). add binary32 x (sure (getD cs k 0))) (from-none (getD cs k 0))
       ∙ one-more (getD cs k 0)
 
@@ -134,7 +140,8 @@ laid-through cs =
     tab-same _ _ blockCount
     (λ j h.
     getD-tab (λ b. sure (getD (blockBits codedBits cs) b 0)) blockCount (blockOf j) nan (layout-undo .lo j h)
-    ∙ ap sure (getD-tab (λ b. getD cs (placeOf b % codedBits) 0) blockCount (blockOf j) 0 (layout-undo .lo j h) ∙ ap (λ (i : ℕ). getD cs (i % codedBits) 0) (layout-undo .there j h)))
+    ∙ ap sure (getD-tab (λ b. getD cs (placeOf b % codedBits) 0) blockCount (blockOf j) 0 (layout-undo .lo j h)
+    ∙ ap (λ (i : ℕ). getD cs (i % codedBits) 0) (layout-undo .there j h)))
 
 pub laid-once : (cs : List ℕ) (k : ℕ) → k < codedBits → 276 ≤ k → getD (gathered codedBits (sureBlocks cs)) k nan ≡ sure (getD cs k 0)
 unfolding gathered

@@ -1,4 +1,5 @@
--- The plane block by block: it is made of its blocks, and what it holds after the first of them became their changes. The votes of the first blocks, and the dither numbers of a block among those of four.
+-- The plane block by block: it is made of its blocks, and what it holds after the first of them became their changes. The votes
+-- of the first blocks, and the dither numbers of a block among those of four.
 use mathlib.Core.Path.{_≡_, refl, sym, _∙_, ap}
 use mathlib.Core.Logic.{_⊎_, inl, inr}
 use mathlib.Core.List.{List}
@@ -39,7 +40,8 @@ place-is p =
 
 pub cell-load : (d : List Float) (p : ℕ) → cell (loadOf d (blockAt p)) (p / 256 % 8) (p % 8) ≡ getD d p nan
 unfolding loadOf
-cell-load d p = cell-grid (λ r c. getD d (lineAt (blockAt p) r + c) nan) (p / 256 % 8) (p % 8) (omega arith) (omega arith) ∙ ap (λ (n : ℕ). getD d n nan) (place-is p)
+cell-load d p = cell-grid (λ r c. getD d (lineAt (blockAt p) r + c) nan) (p / 256 % 8) (p % 8) (omega arith) (omega arith)
+    ∙ ap (λ (n : ℕ). getD d n nan) (place-is p)
 
 pub length-plane : (f : ℕ → List Float) → length (planeOfBlocks f) ≡ planeSize
 unfolding planeOfBlocks
@@ -83,7 +85,12 @@ module _ (bits : List ℕ) (d : List Float) where
   Changed n e = (length e ≡ planeSize) × ((b : ℕ) → b < n → loadOf e b ≡ changedBlock bits d b) × ((b : ℕ) → n ≤ b → loadOf e b ≡ loadOf d b)
 
   one-more : (n : ℕ) (e : List Float) → n < blockCount → Changed n e → Changed (suc n) (storedOf e n (changedBlock bits e n))
-  one-more n e N p = (length-stored e x n N long ∙ p .0, λ b h. go b (eq-or-lt-of-le h), λ b h. load-other e x n N long b (λ q. omega arith) ∙ p .2 b (omega arith))
+  one-more n e N p = (
+    length-stored e x n N long ∙ p .0,
+    λ b h. go b (eq-or-lt-of-le h),
+    λ b h. load-other e x n N long b (λ q. omega arith)
+        ∙ p .2 b (omega arith),
+  )
     where
       x : List Float
       x = changedBlock bits e n
@@ -110,7 +117,8 @@ module _ (bits : List ℕ) (d : List Float) where
 
 -- ---- the votes
 
-pub votes-more : (d : List Float) (n : ℕ) (v : Float) (votes : List Float) → n < blockCount → v ≡ planeVote d n → FirstVotes d n votes → FirstVotes d (n + 1) (set votes n v)
+pub votes-more : (d : List Float) (n : ℕ) (v : Float) (votes : List Float) → n < blockCount → v ≡ planeVote d n → FirstVotes d n votes
+    → FirstVotes d (n + 1) (set votes n v)
 votes-more d n v votes h e p = (simp length-set (p .0), prefix-more (planeVote d) n v votes (omega (arith, p .0)) e (p .1))
 
 -- ---- the dither

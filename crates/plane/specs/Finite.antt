@@ -1,4 +1,6 @@
--- The change and the votes of a plane whose values are at most 2 ^ 20 in size, as those of a picture's are: each vote is a number from -1 to 1, and the change is at most 2 ^ 29 in size. For every plane, the change is the marked plane minus the plane.
+-- The change and the votes of a plane whose values are at most 2 ^ 20 in size, as those of a picture's are: each vote is a
+-- number from -1 to 1, and the change is at most 2 ^ 29 in size. For every plane, the change is the marked plane minus the
+-- plane.
 use mathlib.Core.Path.{_≡_, sym, _∙_, ap, ap₂, subst}
 use mathlib.Core.Bool.{true}
 use mathlib.Core.List.{List}
@@ -54,9 +56,11 @@ change-at : (bits : List ℕ) (d : List Float) (p : ℕ) → p < planeSize
 unfolding changeOf blockChange
 change-at bits d p P =
     place-of-plane (changedBlock bits d) p P
-    ∙ cell-grid (λ r c. sub binary32 (cell (markedAt bits d (blockAt p)) r c) (cell (loadOf d (blockAt p)) r c)) (p / 256 % 8) (p % 8) (omega arith) (omega arith)
+    ∙ cell-grid (λ r c. sub binary32 (cell (markedAt bits d (blockAt p)) r c) (cell (loadOf d (blockAt p)) r c)) (p / 256 % 8) (p % 8) (omega arith)
+    (omega arith)
 
-pub change-is : (bits : List ℕ) (d : List Float) (p : ℕ) → p < planeSize → getD (changeOf bits d) p nan ≡ sub binary32 (getD (markedPlane bits d) p nan) (getD d p nan)
+pub change-is : (bits : List ℕ) (d : List Float) (p : ℕ) → p < planeSize
+    → getD (changeOf bits d) p nan ≡ sub binary32 (getD (markedPlane bits d) p nan) (getD d p nan)
 unfolding markedPlane
 change-is bits d p P = change-at bits d p P ∙ ap₂ (sub binary32) (sym (place-of-plane (markedAt bits d) p P)) (cell-load d p)
 
@@ -65,4 +69,5 @@ pub change-bounded : (bits : List ℕ) (d : List Float) → ((b : ℕ) → getD 
 change-bounded bits d B D p P =
     let b = blockAt p in
     subst (λ (x : Float). Within x (2 ^ 29) 1) (sym (change-at bits d p P))
-    (marked-plane-within (ditherFour b) (loadOf d b) (getD bits b 0) (B b) (dither-within b) (load-within d (2 ^ 20) b (blockAt-below p P) D) (p / 256 % 8) (p % 8) (omega arith) (omega arith))
+    (marked-plane-within (ditherFour b) (loadOf d b) (getD bits b 0) (B b) (dither-within b) (load-within d (2 ^ 20) b (blockAt-below p P) D) (p / 256 % 8)
+    (p % 8) (omega arith) (omega arith))

@@ -1,4 +1,5 @@
--- The mark on the plane: each of its 1,024 blocks carries a bit, and gives a vote on it. From the scope paper and the Rust: block b and coefficient k use the dither's number 4 b + k; the change is the marked plane minus the plane. Definitions only.
+-- The mark on the plane: each of its 1,024 blocks carries a bit, and gives a vote on it. Sections 13 and 14 of the scope:
+-- block b and coefficient k use the dither's number 4 b + k; the change is the marked plane minus the plane. Definitions only.
 use mathlib.Core.List.{List}
 use Prim.Native.Nat.{ℕ, _+_, _*_, _/_, _%_, zero, suc}
 use lib.ListN.{getD, length, take}

@@ -73,7 +73,8 @@ fn embed_four(
     matrix: &[f32; 64],
     turned: &[f32; 64],
 )
-    requires { ⌜ (group < 256) × (length (now plane) ≡ planeSize) × (now u ≡ ditherGroup group) × (now matrix ≡ grid dctEntry) × (now turned ≡ grid dctTurned) ⌝ }
+    requires { ⌜ (group < 256) × (length (now plane) ≡ planeSize) × (now u ≡ ditherGroup group) × (now matrix ≡ grid dctEntry)
+        × (now turned ≡ grid dctTurned) ⌝ }
     ensures { λ _. ⌜ now (plane .exit) ≡ changedFrom (now (bits .entry)) (4 * group) 4 (now (plane .entry)) ⌝ }
 {
     for k in 0..IN_GROUP {
@@ -116,7 +117,8 @@ fn four_votes(
     matrix: &[f32; 64],
     turned: &[f32; 64],
 )
-    requires { ⌜ (group < 256) × (length (now plane) ≡ planeSize) × (now u ≡ ditherGroup group) × (now matrix ≡ grid dctEntry) × (now turned ≡ grid dctTurned) ⌝ }
+    requires { ⌜ (group < 256) × (length (now plane) ≡ planeSize) × (now u ≡ ditherGroup group) × (now matrix ≡ grid dctEntry)
+        × (now turned ≡ grid dctTurned) ⌝ }
     requires { ⌜ FirstVotes (now plane) (4 * group) (now votes) ⌝ }
     ensures { λ _. ⌜ FirstVotes (now (plane .entry)) (4 * group + 4) (now (votes .exit)) ⌝ }
 {

@@ -29,14 +29,22 @@ module _ {A : Type 0} (a n : ℕ) (f : List A → List A) where
       rw (take-append-le a d r start, drop-append-le a d r start, take-append-le n (drop a d) r rest, drop-append-le n (drop a d) r rest)
       (simp append-assoc)
 
-  part-twice : (d : List A) → a + n ≤ length d → ((xs : List A) → length (f xs) ≡ length xs) → ((xs : List A) → f (f xs) ≡ xs) → onPart a n f (onPart a n f d) ≡ d
+  part-twice : (d : List A) → a + n ≤ length d → ((xs : List A) → length (f xs) ≡ length xs) → ((xs : List A) → f (f xs) ≡ xs)
+      → onPart a n f (onPart a n f d) ≡ d
   unfolding onPart
   part-twice d h same twice =
       let mid : List A = take n (drop a d) in
       let rest : List A = drop n (drop a d) in
       let start : length (take a d) ≡ a = length-take-le a d (omega arith) in
       let size : length (f mid) ≡ n = same mid ∙ length-take-le n (drop a d) (omega (arith, length-drop a d)) in
-      rw (take-at (take a d) (f mid ++ rest) a start, drop-at (take a d) (f mid ++ rest) a start, take-at (f mid) rest n size, drop-at (f mid) rest n size, twice mid, take-append-drop n (drop a d))
+      rw (
+        take-at (take a d) (f mid ++ rest) a start,
+        drop-at (take a d) (f mid ++ rest) a start,
+        take-at (f mid) rest n size,
+        drop-at (f mid) rest n size,
+        twice mid,
+        take-append-drop n (drop a d),
+      )
       (take-append-drop a d)
 
 -- ---- zeros, with bytes pasted over the first of them
@@ -47,7 +55,8 @@ drop-zeros n m h =
     let parts : _≡_ {A = List ℕ} (replicate n 0 ++ replicate (m - n) 0) (replicate m 0) = rw whole at (replicate-append-replicate {A = ℕ} n (m - n) 0) in
     rw (← parts) (drop-at (replicate n 0) (replicate (m - n) 0) n (length-replicate {A = ℕ} n 0))
 
-pub pasted-over : (front xs : List ℕ) (k m : ℕ) → length front ≡ k → length xs ≤ m → paste (front ++ replicate m 0) k xs (length xs) ≡ front ++ (xs ++ replicate (m - length xs) 0)
+pub pasted-over : (front xs : List ℕ) (k m : ℕ) → length front ≡ k → length xs ≤ m
+    → paste (front ++ replicate m 0) k xs (length xs) ≡ front ++ (xs ++ replicate (m - length xs) 0)
 pasted-over front xs k m e h =
     rw (← e, take-at front (replicate m 0) (length front) refl, take-length xs, drop-append-add front (replicate m 0) (length xs), drop-zeros (length xs) m h)
     (append-assoc front xs (replicate (m - length xs) 0))
@@ -92,7 +101,12 @@ module _ (p : Profile) where
   pub length-laid : (text : List ℕ) (lock : Lock) → length (lock .salt) ≡ 4 → length text ≤ p .room → length (laidOut p text lock) ≡ innerAt p
   unfolding laidOut
   length-laid text lock s h =
-      simp length-append (omega (arith, length-head lock s, length-append text (replicate (p .room - length text) 0), length-replicate {A = ℕ} (p .room - length text) 0))
+      simp length-append (omega (
+        arith,
+        length-head lock s,
+        length-append text (replicate (p .room - length text) 0),
+        length-replicate {A = ℕ} (p .room - length text) 0,
+      ))
 
   -- the cipher reaches from the length to the inner CRC, and a lock puts it there or leaves all as it is
   locked-either : (lock : Lock) (P : (List ℕ → List ℕ) → Type 0) → P (covered p (lock .key)) → P (λ bs. bs) → P (locked p lock)
@@ -124,13 +138,15 @@ module _ (p : Profile) where
     pub locked-twice : locked p lock (locked p lock bs) ≡ bs
     unfolding covered reach
     locked-twice =
-        locked-either lock (λ f. f (f bs) ≡ bs) (part-twice lengthAt reach _ bs within (length-encrypted (lock .key) _ 0) (encrypted-twice (lock .key) _ 0)) refl
+        locked-either lock (λ f. f (f bs) ≡ bs)
+        (part-twice lengthAt reach _ bs within (length-encrypted (lock .key) _ 0) (encrypted-twice (lock .key) _ 0)) refl
 
     -- mode and salt stay as they are
     pub take-locked : take lengthAt (locked p lock bs) ≡ take lengthAt bs
     unfolding covered onPart
     take-locked =
-        locked-either lock (λ f. take lengthAt (f bs) ≡ take lengthAt bs) (take-at (take lengthAt bs) _ lengthAt (length-take-le lengthAt bs (omega arith))) refl
+        locked-either lock (λ f. take lengthAt (f bs) ≡ take lengthAt bs)
+        (take-at (take lengthAt bs) _ lengthAt (length-take-le lengthAt bs (omega arith))) refl
 
 -- ---- reading
 

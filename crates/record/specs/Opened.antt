@@ -12,7 +12,8 @@ use Rattle.refusal.specs.declared.Refusal.{Refusal}
 use Rattle.crc32.specs.Ieee8023.{crcOf}
 use Rattle.utf8.specs.Rfc3629.{wellFormed}
 use Rattle.record.specs.declared.Lock.{Lock}
-use Rattle.record.specs.Record.{Profile, saltAt, lengthAt, textAt, innerAt, outerAt, withCrc, intact, gives, headOf, laidOut, locked, recordOf, textIn, paddingIn, allZero, sound, insideOf}
+use Rattle.record.specs.Record.{Profile, saltAt, lengthAt, textAt, innerAt, outerAt, withCrc, intact, gives, headOf, laidOut, locked, recordOf}
+use Rattle.record.specs.Record.{textIn, paddingIn, allZero, sound, insideOf}
 use Rattle.seq.specs.Bytes.{bigEndian, numberAt}
 use Rattle.record.specs.Laws.{length-summed, intact-summed, length-head, length-laid, take-locked, locked-append, locked-twice, length-locked}
 
@@ -101,7 +102,8 @@ module _ (p : Profile) (text : List ℕ) (lock : Lock) (four : length (lock .sal
       let long : outerAt p ≤ length (locked p lock inner) = omega (arith, length-locked p lock inner enough, enough) in
       locked-append p lock (locked p lock inner) long outer ∙ ap (λ (l : List ℕ). l ++ outer) (locked-twice p lock inner enough)
 
-  shape : inner ++ outer ≡ bytes (headOf p lock) text (replicate (p .room - length text) 0) (bigEndian (crcOf (laidOut p text lock)) ++ outer) (length-head p lock four)
+  shape : inner ++ outer
+      ≡ bytes (headOf p lock) text (replicate (p .room - length text) 0) (bigEndian (crcOf (laidOut p text lock)) ++ outer) (length-head p lock four)
   unfolding inner withCrc laidOut bytes
   shape = simp append-assoc
 
@@ -115,8 +117,19 @@ module _ (p : Profile) (text : List ℕ) (lock : Lock) (four : length (lock .sal
       let padding : List ℕ = replicate (p .room - length text) 0 in
       let rest : List ℕ = bigEndian (crcOf (laidOut p text lock)) ++ outer in
       let five = length-head p lock four in
-      let right : intact (innerAt p) (inner ++ outer) ≡ true = unfold inner in intact-summed (innerAt p) (laidOut p text lock) outer (length-laid p text lock four fits) in
-      rw (text-opened, good, opened, right, shape, length-there front text padding rest five, padding-there front text padding rest five p (length-replicate {A = ℕ} (p .room - length text) 0), zeros-are (p .room - length text), le-leb (length text) (p .room) fits)
+      let right : intact (innerAt p) (inner ++ outer) ≡ true = unfold inner in
+      intact-summed (innerAt p) (laidOut p text lock) outer (length-laid p text lock four fits) in
+      rw (
+        text-opened,
+        good,
+        opened,
+        right,
+        shape,
+        length-there front text padding rest five,
+        padding-there front text padding rest five p (length-replicate {A = ℕ} (p .room - length text) 0),
+        zeros-are (p .room - length text),
+        le-leb (length text) (p .room) fits,
+      )
 
   pub inside-opened : (wrong : Refusal) → wellFormed text ≡ true → insideOf p wrong (locked p lock (recordOf p text lock)) ≡ gives text
   unfolding insideOf

@@ -17,7 +17,8 @@ use Rattle.utf8.specs.Texts.{wellFormed-counted}
 use Rattle.record.specs.declared.Lock.{Lock}
 use Rattle.record.specs.declared.Key.{Key}
 use Rattle.record.specs.Given.{openingKey}
-use Rattle.record.specs.Record.{Profile, short, saltAt, lengthAt, outerAt, intact, covered, refused, gives, headOf, locked, recordOf, builtOf, textIn, insideOf, parsedOf}
+use Rattle.record.specs.Record.{Profile, short, saltAt, lengthAt, outerAt, intact, covered, refused, gives, headOf, locked, recordOf, builtOf}
+use Rattle.record.specs.Record.{textIn, insideOf, parsedOf}
 use Rattle.seq.specs.Bytes.{numberAt}
 use Rattle.record.specs.Opened.{outer-right, head-there, mode-keyed, mode-plain, salt-there, text-opened, inside-opened}
 
@@ -80,7 +81,8 @@ module _ (p : Profile) (apart : eqb (p .keyed) (p .plain) ≡ false) where
       back : (given : Bool) → lock .given ≡ given → parsedOf p (recordOf p text lock) (openingKey lock) ≡ gives text
       back true e =
           parsed-keyed (recordOf p text lock) (openingKey lock) (outer-right p text lock four fits) (mode-keyed p text lock four fits e) e
-          ∙ (ap (insideOf p WrongPasswordOrDamaged) (sym (locked-keyed p lock (recordOf p text lock) e)) ∙ inside-opened p text lock four fits WrongPasswordOrDamaged good)
+          ∙ (ap (insideOf p WrongPasswordOrDamaged) (sym (locked-keyed p lock (recordOf p text lock) e))
+          ∙ inside-opened p text lock four fits WrongPasswordOrDamaged good)
       back false e =
           parsed-plain (recordOf p text lock) (openingKey lock) (outer-right p text lock four fits) (mode-plain p text lock four fits e) e
           ∙ (ap (insideOf p Damaged) (sym (locked-plain p lock (recordOf p text lock) e)) ∙ inside-opened p text lock four fits Damaged good)
@@ -105,7 +107,8 @@ module _ (p : Profile) (apart : eqb (p .keyed) (p .plain) ≡ false) where
       go false true e = absurd (eqb-false (p .keyed) (p .plain) apart (cc))
       go false false e = (refl, λ t. absurd (false≢true t))
 
-  same-locked : (lock₁ lock₂ : Lock) (bs : List ℕ) → lock₁ .given ≡ lock₂ .given → (lock₁ .given ≡ true → lock₁ .key ≡ lock₂ .key) → locked p lock₁ bs ≡ locked p lock₂ bs
+  same-locked : (lock₁ lock₂ : Lock) (bs : List ℕ) → lock₁ .given ≡ lock₂ .given → (lock₁ .given ≡ true → lock₁ .key ≡ lock₂ .key)
+      → locked p lock₁ bs ≡ locked p lock₂ bs
   same-locked lock₁ lock₂ bs e same = go (lock₁ .given) refl
     where
       go : (g : Bool) → lock₁ .given ≡ g → locked p lock₁ bs ≡ locked p lock₂ bs

@@ -14,13 +14,15 @@ use Rattle.refusal.specs.Laws.{refused-not-done}
 use Rattle.record_build.specs.Answers.{builtAs}
 
 -- a text that is not refused has its record
-pub built-done : (text : List ℕ) (lock : Lock) → builtAs (builtOf short text lock) .answer ≡ Done → builtAs (builtOf short text lock) .bytes ≡ recordOf short text lock
+pub built-done : (text : List ℕ) (lock : Lock) → builtAs (builtOf short text lock) .answer ≡ Done
+    → builtAs (builtOf short text lock) .bytes ≡ recordOf short text lock
 unfolding builtOf
 built-done text lock e = go (leb (length text) (short .room)) (counted text) e
   where
     go : (s t : Bool)
         → builtAs (cond (not s) (refused (TextTooLong (length text))) (cond (not t) (refused TextNotUtf8) (gives (recordOf short text lock)))) .answer ≡ Done
-        → builtAs (cond (not s) (refused (TextTooLong (length text))) (cond (not t) (refused TextNotUtf8) (gives (recordOf short text lock)))) .bytes ≡ recordOf short text lock
+        → builtAs (cond (not s) (refused (TextTooLong (length text))) (cond (not t) (refused TextNotUtf8) (gives (recordOf short text lock)))) .bytes
+        ≡ recordOf short text lock
     go true true e = refl
     go true false e = absurd (refused-not-done _ e)
     go false t e = absurd (refused-not-done _ e)

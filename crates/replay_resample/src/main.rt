@@ -84,9 +84,14 @@ fn luma_room() -> [f32; 64]
 
 // The luma of a row into `out`, which is as expected.
 fn made_luma(row: &[u8], channels: usize, out: &mut [f32], expected: &[u8]) -> bool
-    requires { ⌜ (3 ≤ channels) × (channels ≤ 4) × (length (now row) ≡ length (now out) * channels) × (length (now out) ≤ 64) × (length (now expected) ≡ 256) ⌝ }
+    requires { ⌜ (3 ≤ channels) × (channels ≤ 4) × (length (now row) ≡ length (now out) * channels) × (length (now out) ≤ 64)
+        × (length (now expected) ≡ 256) ⌝ }
 {
-    resample_four::luma(row, channels, out);
+    let mut products = [0.0f32; 768];
+    resample_four::shares(&mut products);
+    for x in 0..out.len() {
+        out[x] = resample_four::luma_from(row, x * channels, &products);
+    }
     same(out, expected)
 }
 
@@ -142,7 +147,8 @@ fn full_plane(
     samples: &mut [u8],
     plane: &mut [f32],
 )
-    requires { ⌜ (0 < width) × (width ≤ 8192) × (0 < height) × (height ≤ 8192) × (3 ≤ channels) × (channels ≤ 4) × (length (now samples) ≡ width * channels * height) × (length (now plane) ≡ 65536) × (0 < length (now pattern)) ⌝ }
+    requires { ⌜ (0 < width) × (width ≤ 8192) × (0 < height) × (height ≤ 8192) × (3 ≤ channels) × (channels ≤ 4)
+        × (length (now samples) ≡ width * channels * height) × (length (now plane) ≡ 65536) × (0 < length (now pattern)) ⌝ }
 {
     fill_samples(pattern, samples);
     resample_down::plane(samples, width, height, channels, plane);
@@ -155,7 +161,8 @@ fn sized_plane(
     channels: usize,
     plane: &mut [f32],
 ) -> bool
-    requires { ⌜ (0 < width) × (width ≤ 8192) × (0 < height) × (height ≤ 8192) × (3 ≤ channels) × (channels ≤ 4) × (length (now plane) ≡ 65536) × (0 < length (now pattern)) ⌝ }
+    requires { ⌜ (0 < width) × (width ≤ 8192) × (0 < height) × (height ≤ 8192) × (3 ≤ channels) × (channels ≤ 4) × (length (now plane) ≡ 65536)
+        × (0 < length (now pattern)) ⌝ }
 {
     let n = samples_in(width, height, channels);
     let mut samples = sample_room();
@@ -241,7 +248,9 @@ fn full_change(
     end: usize,
     expected: &[u8],
 ) -> bool
-    requires { ⌜ (256 ≤ width) × (width ≤ 512) × (256 ≤ height) × (height ≤ 512) × (3 ≤ channels) × (channels ≤ 4) × (length (now samples) ≡ width * channels * height) × (length (now change) ≡ 65536) × (0 < length (now pattern)) × (place + 64 ≡ end) × (64 ≤ length (now expected)) ⌝ }
+    requires { ⌜ (256 ≤ width) × (width ≤ 512) × (256 ≤ height) × (height ≤ 512) × (3 ≤ channels) × (channels ≤ 4)
+        × (length (now samples) ≡ width * channels * height) × (length (now change) ≡ 65536) × (0 < length (now pattern)) × (place + 64 ≡ end)
+        × (64 ≤ length (now expected)) ⌝ }
 {
     fill_samples(pattern, samples);
     resample_up::change_samples(change, width, height, channels, samples);
@@ -260,7 +269,8 @@ fn sized_change(
     place: usize,
     expected: &[u8],
 ) -> bool
-    requires { ⌜ (256 ≤ width) × (width ≤ 512) × (256 ≤ height) × (height ≤ 512) × (3 ≤ channels) × (channels ≤ 4) × (length (now change) ≡ 65536) × (0 < length (now pattern)) × (place < 2 ^ 32) × (64 ≤ length (now expected)) ⌝ }
+    requires { ⌜ (256 ≤ width) × (width ≤ 512) × (256 ≤ height) × (height ≤ 512) × (3 ≤ channels) × (channels ≤ 4) × (length (now change) ≡ 65536)
+        × (0 < length (now pattern)) × (place < 2 ^ 32) × (64 ≤ length (now expected)) ⌝ }
 {
     let n = samples_in(width, height, channels);
     let end = place + 64;

@@ -129,7 +129,8 @@ struct Case {
 
 fn told_at(text: &[u8], at: usize) -> Told
     requires { ⌜ at ≤ length (now text) ⌝ }
-    ensures { λ r. ⌜ InText (now (text .entry)) (r .number) × InText (now (text .entry)) (r .given) × (min (at + 1) (length (now (text .entry))) ≤ r .given .end) ⌝ }
+    ensures { λ r. ⌜ InText (now (text .entry)) (r .number) × InText (now (text .entry)) (r .given)
+        × (min (at + 1) (length (now (text .entry))) ≤ r .given .end) ⌝ }
 {
     let number = replay_lists::next(text, at);
     let given = replay_lists::next(text, number.end);

@@ -13,7 +13,8 @@ use lib.Ieee.{Float}
 use borrow.Author.Tests.{lt-ltb, le-ltb, ltb-true, ltb-false}
 use Rattle.seq.specs.Lists.{tab}
 use Rattle.refusal.specs.declared.Refusal.{Refusal}
-use Rattle.refusal.specs.declared.Refusal.the-variants.{BadLength, NoWatermark, UnsupportedVersion, NotEncrypted, PasswordRequired, Damaged, WrongPasswordOrDamaged}
+use Rattle.refusal.specs.declared.Refusal.the-variants.{BadLength, NoWatermark, UnsupportedVersion, NotEncrypted, PasswordRequired, Damaged}
+use Rattle.refusal.specs.declared.Refusal.the-variants.{WrongPasswordOrDamaged}
 use Rattle.record.specs.declared.Key.{Key}
 use Rattle.record.specs.declared.Reading.{Reading}
 use Rattle.record.specs.Record.{short, saltAt, lengthAt, textAt, outerAt, intact, covered, Outcome, refused, gives, textIn, sound, insideOf, parsedOf}

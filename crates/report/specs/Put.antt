@@ -29,7 +29,8 @@ module _ {a b before mid after : List ℕ} {at m next : ℕ} where
       let all : length a ≤ length a = omega arith in
       let place : at + (length a + length b) ≡ at + length a + length b = omega arith in
       let front : take m mid ≡ take at before ++ a = rw (p .place, p .bytes, take-paste before at a (length a) start all, take-length a) in
-      let rest : drop (m + length b) mid ≡ drop (at + length a + length b) before = rw (← drop-drop (length b) m mid, p .place, p .bytes, drop-paste before at a (length a) start all) (drop-drop (length b) (at + length a) before) in
+      let rest : drop (m + length b) mid ≡ drop (at + length a + length b) before =
+      rw (← drop-drop (length b) m mid, p .place, p .bytes, drop-paste before at a (length a) start all) (drop-drop (length b) (at + length a) before) in
       record {
         place = omega (arith, p .place, q .place);
         bytes = q .bytes ∙ rw (front, rest, take-length b, take-length (a ++ b), long, place) (simp append-assoc);
@@ -37,7 +38,8 @@ module _ {a b before mid after : List ℕ} {at m next : ℕ} where
 
 -- five pieces put over zeros, one behind the other, are a line
 module _ {a b c d e o₁ o₂ o₃ o₄ o₅ : List ℕ} {p₁ p₂ p₃ p₄ p₅ : ℕ} where
-  pub puts-line : length a + length b + length c + length d + length e ≤ lineRoom → Puts a (replicate lineRoom 0) 0 o₁ p₁ → Puts b o₁ p₁ o₂ p₂ → Puts c o₂ p₂ o₃ p₃ → Puts d o₃ p₃ o₄ p₄ → Puts e o₄ p₄ o₅ p₅ → record { bytes = o₅; length = p₅ } ≡ lineAs (a ++ b ++ c ++ d ++ e)
+  pub puts-line : length a + length b + length c + length d + length e ≤ lineRoom → Puts a (replicate lineRoom 0) 0 o₁ p₁ → Puts b o₁ p₁ o₂ p₂
+      → Puts c o₂ p₂ o₃ p₃ → Puts d o₃ p₃ o₄ p₄ → Puts e o₄ p₄ o₅ p₅ → record { bytes = o₅; length = p₅ } ≡ lineAs (a ++ b ++ c ++ d ++ e)
   puts-line h A B C D E =
       let two = puts-more (omega arith) A B in
       let three = puts-more (simp length-append (omega arith)) two C in

@@ -33,7 +33,8 @@ sides r s = go (ltb r s) (ltb s r) (ltb→lt r s) (nltb→le r s) (ltb→lt s r)
         inr (inl (omega arith))
 
 -- a part that is apart from one that was written is as it was
-part-apart : (a n : ℕ) (v d : List Float) (b : ℕ) → a + n ≤ length d → length v ≡ n → b + n ≤ length d → (b + n ≤ a) ⊎ (a + n ≤ b) → take n (drop b (onPart a n (λ (x : List Float). v) d)) ≡ take n (drop b d)
+part-apart : (a n : ℕ) (v d : List Float) (b : ℕ) → a + n ≤ length d → length v ≡ n → b + n ≤ length d → (b + n ≤ a) ⊎ (a + n ≤ b)
+    → take n (drop b (onPart a n (λ (x : List Float). v) d)) ≡ take n (drop b d)
 part-apart a n v d b h l k o =
     let f : List Float → List Float = λ (x : List Float). v in
     let e : length (onPart a n f d) ≡ length d = length-onPart a n f d h l in
@@ -43,9 +44,11 @@ part-apart a n v d b h l k o =
     same i I (inl q) = onPart-before a n (λ (x : List Float). v) d (b + i) nan (omega arith) (omega arith)
     same i I (inr q) =
         let j : a + n + (b + i - (a + n)) ≡ b + i = omega arith in
-        subst (λ (m : ℕ). getD (onPart a n (λ (x : List Float). v) d) m nan ≡ getD d m nan) j (onPart-after a n (λ (x : List Float). v) d (b + i - (a + n)) nan h l)
+        subst (λ (m : ℕ). getD (onPart a n (λ (x : List Float). v) d) m nan ≡ getD d m nan) j
+        (onPart-after a n (λ (x : List Float). v) d (b + i - (a + n)) nan h l)
 
-module _ (row : ℕ → List Float) (n stride places : ℕ) (held : List ℕ) (rows : List Float) (K : KeptRows row n stride places held rows) (s k : ℕ) (S : s < places) (v : List Float) (long : length v ≡ n) (E : v ≡ row k) where
+module _ (row : ℕ → List Float) (n stride places : ℕ) (held : List ℕ) (rows : List Float) (K : KeptRows row n stride places held rows) (s k : ℕ)
+    (S : s < places) (v : List Float) (long : length v ≡ n) (E : v ≡ row k) where
   fits-at : (r : ℕ) → r < places → r * stride + n ≤ length rows
   fits-at r R = omega (arith, row-fits r stride places R, mul-comm stride places, K .rows-room, K .fits)
 
@@ -54,7 +57,8 @@ module _ (row : ℕ → List Float) (n stride places : ℕ) (held : List ℕ) (r
   unfolding onPart
   kept-here =
       let e : length (take (s * stride) rows) ≡ s * stride = length-take-le (s * stride) rows (omega (arith, fits-at s S)) in
-      ap (take n) (drop-at (take (s * stride) rows) (v ++ drop n (drop (s * stride) rows)) (s * stride) e) ∙ (take-at v (drop n (drop (s * stride) rows)) n long ∙ E)
+      ap (take n) (drop-at (take (s * stride) rows) (v ++ drop n (drop (s * stride) rows)) (s * stride) e)
+      ∙ (take-at v (drop n (drop (s * stride) rows)) n long ∙ E)
 
   pub kept-new : KeptRows row n stride places (set held s (k + 1)) (onPart (s * stride) n (λ (x : List Float). v) rows)
   kept-new =
@@ -65,10 +69,13 @@ module _ (row : ℕ → List Float) (n stride places : ℕ) (held : List ℕ) (r
         fits = K .fits;
       }
     where
-      other : (r j : ℕ) → r < places → (r ≡ s → ⊥) → getD (set held s (k + 1)) r 0 ≡ suc j → (r * stride + n ≤ s * stride) ⊎ (s * stride + n ≤ r * stride) → take n (drop (r * stride) (onPart (s * stride) n (λ (x : List Float). v) rows)) ≡ row j
-      other r j R d e o = part-apart (s * stride) n v rows (r * stride) (fits-at s S) long (fits-at r R) o ∙ K .is r j R (sym (getD-set-other held s r (k + 1) 0 d) ∙ e)
+      other : (r j : ℕ) → r < places → (r ≡ s → ⊥) → getD (set held s (k + 1)) r 0 ≡ suc j → (r * stride + n ≤ s * stride) ⊎ (s * stride + n ≤ r * stride)
+          → take n (drop (r * stride) (onPart (s * stride) n (λ (x : List Float). v) rows)) ≡ row j
+      other r j R d e o = part-apart (s * stride) n v rows (r * stride) (fits-at s S) long (fits-at r R) o
+          ∙ K .is r j R (sym (getD-set-other held s r (k + 1) 0 d) ∙ e)
 
-      go : (r j : ℕ) → r < places → getD (set held s (k + 1)) r 0 ≡ suc j → (r < s) ⊎ ((r ≡ s) ⊎ (s < r)) → take n (drop (r * stride) (onPart (s * stride) n (λ (x : List Float). v) rows)) ≡ row j
+      go : (r j : ℕ) → r < places → getD (set held s (k + 1)) r 0 ≡ suc j → (r < s) ⊎ ((r ≡ s) ⊎ (s < r))
+          → take n (drop (r * stride) (onPart (s * stride) n (λ (x : List Float). v) rows)) ≡ row j
       go r j R e (inl l) = other r j R (λ q. absurd (omega arith)) e (inl (omega (arith, row-fits r stride s l, mul-comm stride s, K .fits)))
       go r j R e (inr (inl q)) =
           let here : getD (set held s (k + 1)) s 0 ≡ k + 1 = getD-set-same held s (k + 1) 0 (omega (arith, K .held-room)) in
@@ -77,11 +84,13 @@ module _ (row : ℕ → List Float) (n stride places : ℕ) (held : List ℕ) (r
       go r j R e (inr (inr l)) = other r j R (λ q. absurd (omega arith)) e (inr (omega (arith, row-fits s stride r l, mul-comm stride r, K .fits)))
 
 -- none is kept at first
-pub kept-none : (row : ℕ → List Float) (n stride places : ℕ) (held : List ℕ) (rows : List Float) → ((s : ℕ) → getD held s 0 ≡ 0) → length held ≡ places → length rows ≡ places * stride → n ≤ stride → KeptRows row n stride places held rows
+pub kept-none : (row : ℕ → List Float) (n stride places : ℕ) (held : List ℕ) (rows : List Float) → ((s : ℕ) → getD held s 0 ≡ 0) → length held ≡ places
+    → length rows ≡ places * stride → n ≤ stride → KeptRows row n stride places held rows
 kept-none row n stride places held rows z h r f = record { is = λ s k S e. absurd (omega (arith, sym (z s) ∙ e)); held-room = h; rows-room = r; fits = f }
 
 -- and `held` is all 0 then
-pub kept-empty : (row : ℕ → List Float) (n stride places : ℕ) (rows : List Float) → length rows ≡ places * stride → n ≤ stride → KeptRows row n stride places (replicate places 0) rows
+pub kept-empty : (row : ℕ → List Float) (n stride places : ℕ) (rows : List Float) → length rows ≡ places * stride → n ≤ stride
+    → KeptRows row n stride places (replicate places 0) rows
 kept-empty row n stride places rows r f = kept-none row n stride places (replicate places 0) rows (zeros places) (length-replicate places 0) r f
   where
     zeros : (m s : ℕ) → getD {A = ℕ} (replicate m 0) s 0 ≡ 0

@@ -19,7 +19,8 @@ module _ {A : Type 0} (f : ℕ → A) (n : ℕ) (d : List A) where
   unfolding filled
   filled-at z =
       let e : n ≡ length (tab f n) + 0 = omega (arith, length-tab f n) in
-      ap (λ (k : ℕ). getD (tab f n ++ drop n d) k z) e ∙ (getD-append-add (tab f n) (drop n d) 0 z ∙ (getD-drop n d 0 z ∙ ap (λ (k : ℕ). getD d k z) (add-zero n)))
+      ap (λ (k : ℕ). getD (tab f n ++ drop n d) k z) e
+      ∙ (getD-append-add (tab f n) (drop n d) 0 z ∙ (getD-drop n d 0 z ∙ ap (λ (k : ℕ). getD d k z) (add-zero n)))
 
 -- ---- where a pixel and a row stand
 
@@ -28,7 +29,8 @@ pub pixel-fits : (x channels width : ℕ) → x < width → x * channels + chann
 pixel-fits x channels width h = omega (arith, mul-comm width channels, row-fits x channels width h)
 
 -- row i of a picture ends within its samples
-pub row-inside : {width height channels : ℕ} {samples : List ℕ} → Sized width height channels samples → (i : ℕ) → i < height → i * (width * channels) + width * channels ≤ length samples
+pub row-inside : {width height channels : ℕ} {samples : List ℕ} → Sized width height channels samples → (i : ℕ) → i < height
+    → i * (width * channels) + width * channels ≤ length samples
 row-inside {width} {height} {channels} s i h = omega (arith, s .full, row-fits i (width * channels) height h)
 
 -- the part from y * n up to y * n + n is row y
@@ -43,4 +45,6 @@ length-row n d y h = length-take-le n (drop (y * n) d) (omega (arith, length-dro
 -- a part put back is pasted
 pub part-pasted : {A : Type 0} (a n : ℕ) (v d : List A) → length v ≡ n → onPart a n (λ (x : List A). v) d ≡ paste d a v n
 unfolding onPart
-part-pasted {A} a n v d e = ap₂ (λ (xs ys : List A). take a d ++ (xs ++ ys)) (sym (take-all n v (omega arith))) (drop-drop n a d) ∙ sym (append-assoc (take a d) (take n v) (drop (a + n) d))
+part-pasted {A} a n v d e =
+    ap₂ (λ (xs ys : List A). take a d ++ (xs ++ ys)) (sym (take-all n v (omega arith))) (drop-drop n a d)
+    ∙ sym (append-assoc (take a d) (take n v) (drop (a + n) d))

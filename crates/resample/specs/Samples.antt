@@ -1,4 +1,5 @@
--- Pictures of 8-bit samples with 3 or 4 channels, and the plane of 256 x 256 luma values: from samples to the plane, and a change of the plane put onto samples. Definitions only.
+-- Pictures of 8-bit samples with 3 or 4 channels, and the plane of 256 x 256 luma values: from samples to the plane, and a
+-- change of the plane put onto samples. Definitions only.
 use mathlib.Core.Bool.{cond}
 use mathlib.Core.List.{List}
 use Prim.Native.Nat.{ℕ, _+_, _*_, _/_, _%_}
@@ -29,7 +30,8 @@ blue = ofBits binary32 0x3de9_78d5
 
 -- (0.299 R + 0.587 G) + 0.114 B of the pixel whose samples start at place p
 unfoldable pub lumaFrom : List ℕ → ℕ → Float
-lumaFrom row p = add binary32 (add binary32 (mul binary32 red (sampleValue row p)) (mul binary32 green (sampleValue row (p + 1)))) (mul binary32 blue (sampleValue row (p + 2)))
+lumaFrom row p = add binary32 (add binary32 (mul binary32 red (sampleValue row p)) (mul binary32 green (sampleValue row (p + 1))))
+    (mul binary32 blue (sampleValue row (p + 2)))
 
 -- of pixel x
 abbrev pub lumaAt : ℕ → List ℕ → ℕ → Float
@@ -63,4 +65,5 @@ unfoldable pub changedRow : ℕ → (ℕ → Float) → List ℕ → List ℕ
 changedRow channels delta row = tab (changedAt channels delta row) (length row)
 
 unfoldable pub changedOf : ℕ → ℕ → ℕ → List Float → List ℕ → List ℕ
-changedOf width height channels change samples = lines (λ y. changedRow channels (λ x. getD (changeRow width height change y) x nan) (rowOf (width * channels) samples y)) height
+changedOf width height channels change samples =
+    lines (λ y. changedRow channels (λ x. getD (changeRow width height change y) x nan) (rowOf (width * channels) samples y)) height

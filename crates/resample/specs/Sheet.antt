@@ -14,5 +14,6 @@ picture = (ofBits binary32 0x4273_fbe7 ∷ ofBits binary32 0x4253_b127 ∷ []) �
 pub rows-first :
     resampled 2 2 1 1 (λ y x. getD (getD picture y []) x nan) 0 0
     ≡ ofBits binary32 0x427a_dc6a
-unfolding resampled across tapTotal windowOf numbers scaleOf centerOf supportOf tentOf weightOf tentSum clampOf tapsTo taps ofBits ofInt toSigned add sub mul div lt floor ceil narrow absolute larger
+unfolding resampled across tapTotal windowOf numbers scaleOf centerOf supportOf tentOf weightOf tentSum clampOf tapsTo taps ofBits ofInt toSigned add sub
+    mul div lt floor ceil narrow absolute larger
 rows-first = refl

@@ -1,4 +1,5 @@
--- Rows summed with the weights of a window: with no row, with one more, and with all, which is a row of what is resampled; and the turns of a loop over the window's numbers.
+-- Rows summed with the weights of a window: with no row, with one more, and with all, which is a row of what is resampled; and
+-- the turns of a loop over the window's numbers.
 use mathlib.Core.Path.{_≡_, sym, _∙_, ap}
 use mathlib.Core.List.{List, [], _∷_, _++_}
 use Prim.Native.Nat.{ℕ, _≤_, _<_, _+_, _^_}
@@ -30,17 +31,22 @@ pub sumRows-none : (n : ℕ) (row : ℕ → List Float) → replicate n zero+ �
 unfolding sumRows tapTotal
 sumRows-none n row = sym (tab-replicate zero+ n)
 
-pub sumRows-more : (n : ℕ) (row : ℕ → List Float) (ts : List Tap) (t : Tap) (sum r : List Float) → sum ≡ sumRows n row ts → r ≡ row (t .from) → tab (addedAt sum (t .weight) r) n ≡ sumRows n row (ts ++ (t ∷ []))
+pub sumRows-more : (n : ℕ) (row : ℕ → List Float) (ts : List Tap) (t : Tap) (sum r : List Float) → sum ≡ sumRows n row ts → r ≡ row (t .from)
+    → tab (addedAt sum (t .weight) r) n ≡ sumRows n row (ts ++ (t ∷ []))
 unfolding sumRows
 sumRows-more n row ts t sum r e f =
     tab-same _ _ n
     (λ x X.
     rw (e, f)
-    (ap (λ (z : Float). add binary32 z (mul binary32 (t .weight) (getD (row (t .from)) x nan))) (getD-tab (λ x. tapTotal zero+ ts (λ k. getD (row k) x nan)) n x nan X) ∙ total-more zero+ ts t (λ k. getD (row k) x nan)))
+    (ap (λ (z : Float). add binary32 z (mul binary32 (t .weight) (getD (row (t .from)) x nan)))
+    (getD-tab (λ x. tapTotal zero+ ts (λ k. getD (row k) x nan)) n x nan X) ∙ total-more zero+ ts t (λ k. getD (row k) x nan)))
 
-pub sumRows-all : (w h n m : ℕ) (f : ℕ → ℕ → Float) (row : ℕ → List Float) (y : ℕ) → ((k : ℕ) → row k ≡ tab (across w n (f k)) n) → sumRows n row (taps h m y) ≡ tab (resampled w h n m f y) n
+pub sumRows-all : (w h n m : ℕ) (f : ℕ → ℕ → Float) (row : ℕ → List Float) (y : ℕ) → ((k : ℕ) → row k ≡ tab (across w n (f k)) n)
+    → sumRows n row (taps h m y) ≡ tab (resampled w h n m f y) n
 unfolding sumRows resampled
-sumRows-all w h n m f row y e = tab-same _ _ n (λ x X. total-same zero+ (taps h m y) _ _ (λ i I. let k = getD (taps h m y) i noTap .from in ap (λ (r : List Float). getD r x nan) (e k) ∙ getD-tab (across w n (f k)) n x nan X))
+sumRows-all w h n m f row y e =
+    tab-same _ _ n (λ x X. total-same zero+ (taps h m y) _ _ (λ i I. let k = getD (taps h m y) i noTap .from in
+    ap (λ (r : List Float). getD r x nan) (e k) ∙ getD-tab (across w n (f k)) n x nan X))
 
 -- ---- a loop over the numbers of a window
 
@@ -54,14 +60,17 @@ module _ (w : Window) (small : Small w) where
     pub turn-small : k ≤ 2 ^ 32
     turn-small = omega (arith, numbers-small (w .first) (w .last) (small .0) (small .1))
 
-    module _ (z : ℤ) (e : z ≡ toZ w64 (ofZ w64 (w .first)) +ℤ pos k) (v : Weight) (f : v ≡ weightOf w (toZ w64 (ofZ w64 z))) (src n : ℕ) (row : ℕ → List Float) (sum : List Float) (g : sum ≡ sumRows n row (tapsTo w src k)) where
+    module _ (z : ℤ) (e : z ≡ toZ w64 (ofZ w64 (w .first)) +ℤ pos k) (v : Weight) (f : v ≡ weightOf w (toZ w64 (ofZ w64 z))) (src n : ℕ) (row : ℕ
+        → List Float) (sum : List Float) (g : sum ≡ sumRows n row (tapsTo w src k)) where
       number : toZ w64 (ofZ w64 z) ≡ w .first +ℤ pos k
       number = passed z (w .first) k (small .0) turn-small e
 
       pub turn-without : v ≡ Nothing → sum ≡ sumRows n row (tapsTo w src (k + 1))
       turn-without h = g ∙ ap (sumRows n row) (taps-without w src k (sym (f ∙ ap (weightOf w) number) ∙ h))
 
-      pub turn-with : (q : Float) (i : ℕ) → v ≡ Of q → i ≡ clampOf src (toZ w64 (ofZ w64 z)) → tab (addedAt sum q (row i)) n ≡ sumRows n row (tapsTo w src (k + 1))
+      pub turn-with : (q : Float) (i : ℕ) → v ≡ Of q → i ≡ clampOf src (toZ w64 (ofZ w64 z))
+          → tab (addedAt sum q (row i)) n ≡ sumRows n row (tapsTo w src (k + 1))
       turn-with q i h c =
           let t : Tap = record { from = clampOf src (w .first +ℤ pos k); weight = q } in
-          sumRows-more n row (tapsTo w src k) t sum (row i) g (ap row (c ∙ ap (clampOf src) number)) ∙ ap (sumRows n row) (sym (taps-with w src k q (sym (f ∙ ap (weightOf w) number) ∙ h)))
+          sumRows-more n row (tapsTo w src k) t sum (row i) g (ap row (c ∙ ap (clampOf src) number))
+          ∙ ap (sumRows n row) (sym (taps-with w src k q (sym (f ∙ ap (weightOf w) number) ∙ h)))

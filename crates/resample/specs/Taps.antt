@@ -20,8 +20,10 @@ use Rattle.resample.specs.Resampled.{tapTotal, across}
 use Rattle.resample.specs.Tables.{Tables, noTap}
 
 -- what `taps` makes in lists that have room
-pub tables-made : (src dst : ℕ) (offsets₀ offsets index₀ index : List ℕ) (weight₀ weight : List Float) → 0 < src → dst < length offsets₀ → start src dst dst ≤ length index₀ → start src dst dst ≤ length weight₀
-    → offsets ≡ filled (start src dst) (dst + 1) offsets₀ → index ≡ onto (tapSources (allTaps src dst dst)) index₀ → weight ≡ onto (tapWeights (allTaps src dst dst)) weight₀ → Tables src dst offsets index weight
+pub tables-made : (src dst : ℕ) (offsets₀ offsets index₀ index : List ℕ) (weight₀ weight : List Float) → 0 < src → dst < length offsets₀
+    → start src dst dst ≤ length index₀ → start src dst dst ≤ length weight₀
+    → offsets ≡ filled (start src dst) (dst + 1) offsets₀ → index ≡ onto (tapSources (allTaps src dst dst)) index₀
+    → weight ≡ onto (tapWeights (allTaps src dst dst)) weight₀ → Tables src dst offsets index weight
 unfolding filled onto start
 tables-made src dst offsets₀ offsets index₀ index weight₀ weight some d i w e f g =
     let all = allTaps src dst dst in
@@ -69,18 +71,21 @@ unfolding tapTotal
 total-append z [] us f = refl
 total-append z (t ∷ ts) us f = total-append (add binary32 z (mul binary32 (t .weight) (f (t .from)))) ts us f
 
-pub total-more : (z : Float) (ts : List Tap) (t : Tap) (f : ℕ → Float) → add binary32 (tapTotal z ts f) (mul binary32 (t .weight) (f (t .from))) ≡ tapTotal z (ts ++ (t ∷ [])) f
+pub total-more : (z : Float) (ts : List Tap) (t : Tap) (f : ℕ → Float)
+    → add binary32 (tapTotal z ts f) (mul binary32 (t .weight) (f (t .from))) ≡ tapTotal z (ts ++ (t ∷ [])) f
 unfolding tapTotal
 total-more z ts t f = sym (total-append z ts (t ∷ []) f)
 
 -- the same, of the first m of a sample's taps
-pub total-take : (z t : Float) (ts : List Tap) (m : ℕ) (u : Tap) (f : ℕ → Float) → m < length ts → t ≡ tapTotal z (take m ts) f → add binary32 t (mul binary32 (getD ts m u .weight) (f (getD ts m u .from))) ≡ tapTotal z (take (m + 1) ts) f
+pub total-take : (z t : Float) (ts : List Tap) (m : ℕ) (u : Tap) (f : ℕ → Float) → m < length ts → t ≡ tapTotal z (take m ts) f
+    → add binary32 t (mul binary32 (getD ts m u .weight) (f (getD ts m u .from))) ≡ tapTotal z (take (m + 1) ts) f
 total-take z t ts m u f h e = rw (e, add-one, take-suc ts m u h) (total-more z (take m ts) (getD ts m u) f)
 
 -- ---- what stands where
 
 -- a sum reads only inside the source
-pub total-same : (z : Float) (ts : List Tap) (f g : ℕ → Float) → ((i : ℕ) → i < length ts → f (getD ts i noTap .from) ≡ g (getD ts i noTap .from)) → tapTotal z ts f ≡ tapTotal z ts g
+pub total-same : (z : Float) (ts : List Tap) (f g : ℕ → Float) → ((i : ℕ) → i < length ts → f (getD ts i noTap .from) ≡ g (getD ts i noTap .from))
+    → tapTotal z ts f ≡ tapTotal z ts g
 unfolding tapTotal
 total-same z [] f g h = refl
 total-same z (t ∷ ts) f g h =
@@ -132,14 +137,16 @@ module _ {src dst : ℕ} {offsets index : List ℕ} {weight : List Float} (t : T
     with-at : getD weight n nan ≡ getD (taps src dst x) (n - start src dst x) noTap .weight
     with-at =
         sym (getD-take (start src dst dst) weight n nan place-fits)
-        ∙ (ap (λ (xs : List Float). getD xs n nan) (t .with) ∙ (List·getD-map (λ u. u .weight) (allTaps src dst dst) n noTap ∙ ap (λ (u : Tap). u .weight) tap-at))
+        ∙ (ap (λ (xs : List Float). getD xs n nan) (t .with)
+        ∙ (List·getD-map (λ u. u .weight) (allTaps src dst dst) n noTap ∙ ap (λ (u : Tap). u .weight) tap-at))
 
     -- the tap reads inside the source
     pub from-inside : getD index n 0 < src
     from-inside = omega (arith, from-at, taps-from src dst x noTap (t .some) (n - start src dst x) own)
 
     -- one tap more of sample x, over any row
-    pub one-more : (v : Float) (f : ℕ → Float) → v ≡ soFar src dst x n f → add binary32 v (mul binary32 (getD weight n nan) (f (getD index n 0))) ≡ soFar src dst x (n + 1) f
+    pub one-more : (v : Float) (f : ℕ → Float) → v ≡ soFar src dst x n f
+        → add binary32 v (mul binary32 (getD weight n nan) (f (getD index n 0))) ≡ soFar src dst x (n + 1) f
     one-more v f e =
         let i : n + 1 - start src dst x ≡ n - start src dst x + 1 = omega arith in
         rw (i, with-at, from-at) (total-take zero- v (taps src dst x) (n - start src dst x) noTap f own e)
@@ -147,4 +154,5 @@ module _ {src dst : ℕ} {offsets index : List ℕ} {weight : List Float} (t : T
 -- all taps of sample x
 pub all-there : (src dst x e : ℕ) (v : Float) (f : ℕ → Float) → e ≡ start src dst (x + 1) → v ≡ soFar src dst x e f → v ≡ across src dst f x
 unfolding across
-all-there src dst x e v f E h = h ∙ ap (λ (ts : List Tap). tapTotal zero- ts f) (take-all (e - start src dst x) (taps src dst x) (omega (arith, start-more src dst x)))
+all-there src dst x e v f E h =
+    h ∙ ap (λ (ts : List Tap). tapTotal zero- ts f) (take-all (e - start src dst x) (taps src dst x) (omega (arith, start-more src dst x)))

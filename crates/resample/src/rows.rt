@@ -1,4 +1,4 @@
-// A row put through its taps, as `upsample` does it one by one, and a weighted row added to another, as both ways do.
+// A row put through its taps, as `resample_up` does it one by one, and a weighted row added to another, as both ways do.
 ghost use mathlib.Core.Path.{_≡_};
 ghost use Prim.Native.Nat.{_<_};
 ghost use lib.ListN.{length, getD};
@@ -39,7 +39,8 @@ fn value_across(
 // The row brought to as many values as `out` has, by the tables that `resample_window::taps` makes.
 pub fn row_across(offsets: &[u16], index: &[u16], weight: &[f32], source: &[f32], out: &mut [f32])
     requires { ⌜ Tables (length (now source)) (length (now out)) (now offsets) (now index) (now weight) ⌝ }
-    ensures { λ _. ⌜ now (out .exit) ≡ tab (across (length (now (source .entry))) (length (now (out .entry))) (λ k. getD (now (source .entry)) k nan)) (length (now (out .entry))) ⌝ }
+    ensures { λ _. ⌜ now (out .exit)
+        ≡ tab (across (length (now (source .entry))) (length (now (out .entry))) (λ k. getD (now (source .entry)) k nan)) (length (now (out .entry))) ⌝ }
 {
     let dst = out.len();
     for x in 0..dst {

@@ -10,7 +10,8 @@ use Rattle.resample.specs.Tables.{Tables, KeptRows}
 use Rattle.resample_four.specs.Four.{shareAt, narrowFour}
 
 -- a picture, the products of its luma, the taps of its rows, room for the lumas of four rows, and rows of it that are kept, four to a place
-pub record Narrowing (width height channels : ℕ) (samples : List ℕ) (shares : List Float) (offsets index : List ℕ) (weight line : List Float) (held : List ℕ) (rows : List Float) : Type 0 where
+pub record Narrowing (width height channels : ℕ) (samples : List ℕ) (shares : List Float) (offsets index : List ℕ) (weight line : List Float)
+    (held : List ℕ) (rows : List Float) : Type 0 where
   pub sized : Sized width height channels samples
   pub products : shares ≡ tab shareAt 768
   pub tables : Tables width 256 offsets index weight

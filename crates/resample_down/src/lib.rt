@@ -40,8 +40,10 @@ fn keep(
     rows: &mut [f32],
     held: &mut [u16],
 ) -> usize
-    requires { ⌜ Narrowing width height channels (now samples) (now shares) (now offsets) (now index) (now weight) (now line) (now held) (now rows) × (i < height) ⌝ }
-    ensures again { λ _. ⌜ Narrowing width height channels (now (samples .entry)) (now (shares .entry)) (now (offsets .entry)) (now (index .entry)) (now (weight .entry)) (now (line .exit)) (now (held .exit)) (now (rows .exit)) ⌝ }
+    requires { ⌜ Narrowing width height channels (now samples) (now shares) (now offsets) (now index) (now weight) (now line) (now held) (now rows)
+        × (i < height) ⌝ }
+    ensures again { λ _. ⌜ Narrowing width height channels (now (samples .entry)) (now (shares .entry)) (now (offsets .entry)) (now (index .entry))
+        (now (weight .entry)) (now (line .exit)) (now (held .exit)) (now (rows .exit)) ⌝ }
     ensures place { λ r. ⌜ r + 256 ≤ 16384 ⌝ }
     ensures row { λ r. ⌜ take 256 (drop r (now (rows .exit))) ≡ narrowRow width channels (now (samples .entry)) i ⌝ }
 {
@@ -87,8 +89,10 @@ fn add_picture_row(
     held: &mut [u16],
     sum: &mut [f32],
 )
-    requires { ⌜ Narrowing width height channels (now samples) (now shares) (now offsets) (now index) (now weight) (now line) (now held) (now rows) × (i < height) × (length (now sum) ≡ 256) ⌝ }
-    ensures again { λ _. ⌜ Narrowing width height channels (now (samples .entry)) (now (shares .entry)) (now (offsets .entry)) (now (index .entry)) (now (weight .entry)) (now (line .exit)) (now (held .exit)) (now (rows .exit)) ⌝ }
+    requires { ⌜ Narrowing width height channels (now samples) (now shares) (now offsets) (now index) (now weight) (now line) (now held) (now rows)
+        × (i < height) × (length (now sum) ≡ 256) ⌝ }
+    ensures again { λ _. ⌜ Narrowing width height channels (now (samples .entry)) (now (shares .entry)) (now (offsets .entry)) (now (index .entry))
+        (now (weight .entry)) (now (line .exit)) (now (held .exit)) (now (rows .exit)) ⌝ }
     ensures row { λ _. ⌜ now (sum .exit) ≡ tab (addedAt (now (sum .entry)) q (narrowRow width channels (now (samples .entry)) i)) 256 ⌝ }
 {
     let a = keep(
@@ -125,8 +129,10 @@ fn add_window(
     held: &mut [u16],
     sum: &mut [f32],
 )
-    requires { ⌜ Narrowing width height channels (now samples) (now shares) (now offsets) (now index) (now weight) (now line) (now held) (now rows) × Small w × (now sum ≡ sumRows 256 (narrowRow width channels (now samples)) []) ⌝ }
-    ensures again { λ _. ⌜ Narrowing width height channels (now (samples .entry)) (now (shares .entry)) (now (offsets .entry)) (now (index .entry)) (now (weight .entry)) (now (line .exit)) (now (held .exit)) (now (rows .exit)) ⌝ }
+    requires { ⌜ Narrowing width height channels (now samples) (now shares) (now offsets) (now index) (now weight) (now line) (now held) (now rows)
+        × Small w × (now sum ≡ sumRows 256 (narrowRow width channels (now samples)) []) ⌝ }
+    ensures again { λ _. ⌜ Narrowing width height channels (now (samples .entry)) (now (shares .entry)) (now (offsets .entry)) (now (index .entry))
+        (now (weight .entry)) (now (line .exit)) (now (held .exit)) (now (rows .exit)) ⌝ }
     ensures row { λ _. ⌜ now (sum .exit) ≡ sumRows 256 (narrowRow width channels (now (samples .entry))) (tapsOf w height) ⌝ }
 {
     let first = w.first;
@@ -172,8 +178,10 @@ fn plane_row(
     held: &mut [u16],
     out: &mut [f32],
 )
-    requires { ⌜ Narrowing width height channels (now samples) (now shares) (now offsets) (now index) (now weight) (now line) (now held) (now rows) × (length (now out) ≡ 256) ⌝ }
-    ensures again { λ _. ⌜ Narrowing width height channels (now (samples .entry)) (now (shares .entry)) (now (offsets .entry)) (now (index .entry)) (now (weight .entry)) (now (line .exit)) (now (held .exit)) (now (rows .exit)) ⌝ }
+    requires { ⌜ Narrowing width height channels (now samples) (now shares) (now offsets) (now index) (now weight) (now line) (now held) (now rows)
+        × (length (now out) ≡ 256) ⌝ }
+    ensures again { λ _. ⌜ Narrowing width height channels (now (samples .entry)) (now (shares .entry)) (now (offsets .entry)) (now (index .entry))
+        (now (weight .entry)) (now (line .exit)) (now (held .exit)) (now (rows .exit)) ⌝ }
     ensures row { λ _. ⌜ now (out .exit) ≡ planeRow width height channels (now (samples .entry)) y ⌝ }
 {
     zero_floats(out);
@@ -208,7 +216,8 @@ fn plane_rows(
     held: &mut [u16],
     plane: &mut [f32],
 )
-    requires { ⌜ Narrowing width height channels (now samples) (now shares) (now offsets) (now index) (now weight) (now line) (now held) (now rows) × (length (now plane) ≡ planeSize) ⌝ }
+    requires { ⌜ Narrowing width height channels (now samples) (now shares) (now offsets) (now index) (now weight) (now line) (now held) (now rows)
+        × (length (now plane) ≡ planeSize) ⌝ }
     ensures { λ _. ⌜ now (plane .exit) ≡ planeOf width height channels (now (samples .entry)) ⌝ }
 {
     for y in 0..256usize {

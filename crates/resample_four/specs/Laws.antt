@@ -71,21 +71,27 @@ module _ {A : Type 0} (z : A) (f : ℕ → ℕ → A) where
       others l y L h =
           getD-set-other (set (set (set s x t) (x + 256) u) (x + 512) v) (x + 768) (l * 256 + y) w z (λ q. absurd (omega arith))
           ∙ (getD-set-other (set (set s x t) (x + 256) u) (x + 512) (l * 256 + y) v z (λ q. absurd (omega arith))
-          ∙ (getD-set-other (set s x t) (x + 256) (l * 256 + y) u z (λ q. absurd (omega arith)) ∙ getD-set-other s x (l * 256 + y) t z (λ q. absurd (omega arith))))
+          ∙ (getD-set-other (set s x t) (x + 256) (l * 256 + y) u z (λ q. absurd (omega arith))
+          ∙ getD-set-other s x (l * 256 + y) t z (λ q. absurd (omega arith))))
 
       -- a row before those that are written behind it
       here : (l : ℕ) → l < 4 → getD (set (set (set (set s x t) (x + 256) u) (x + 512) v) (x + 768) w) (l * 256 + x) z ≡ f l x
       here zero L =
           let e : 0 * 256 + x ≡ x = omega arith in
           rw e
-          (getD-set-other (set (set (set s x t) (x + 256) u) (x + 512) v) (x + 768) x w z (λ q. absurd (omega arith)) ∙ (getD-set-other (set (set s x t) (x + 256) u) (x + 512) x v z (λ q. absurd (omega arith)) ∙ (getD-set-other (set s x t) (x + 256) x u z (λ q. absurd (omega arith)) ∙ (getD-set-same s x t z (omega arith) ∙ T))))
+          (getD-set-other (set (set (set s x t) (x + 256) u) (x + 512) v) (x + 768) x w z (λ q. absurd (omega arith))
+          ∙ (getD-set-other (set (set s x t) (x + 256) u) (x + 512) x v z (λ q. absurd (omega arith))
+          ∙ (getD-set-other (set s x t) (x + 256) x u z (λ q. absurd (omega arith)) ∙ (getD-set-same s x t z (omega arith) ∙ T))))
       here (suc zero) L =
           let e : 1 * 256 + x ≡ x + 256 = omega arith in
           rw e
-          (getD-set-other (set (set (set s x t) (x + 256) u) (x + 512) v) (x + 768) (x + 256) w z (λ q. absurd (omega arith)) ∙ (getD-set-other (set (set s x t) (x + 256) u) (x + 512) (x + 256) v z (λ q. absurd (omega arith)) ∙ (getD-set-same (set s x t) (x + 256) u z (rw length-set (omega arith)) ∙ U)))
+          (getD-set-other (set (set (set s x t) (x + 256) u) (x + 512) v) (x + 768) (x + 256) w z (λ q. absurd (omega arith))
+          ∙ (getD-set-other (set (set s x t) (x + 256) u) (x + 512) (x + 256) v z (λ q. absurd (omega arith))
+          ∙ (getD-set-same (set s x t) (x + 256) u z (rw length-set (omega arith)) ∙ U)))
       here (suc (suc zero)) L =
           let e : 2 * 256 + x ≡ x + 512 = omega arith in
-          rw e (getD-set-other (set (set (set s x t) (x + 256) u) (x + 512) v) (x + 768) (x + 512) w z (λ q. absurd (omega arith)) ∙ (getD-set-same (set (set s x t) (x + 256) u) (x + 512) v z (rw (length-set, length-set) (omega arith)) ∙ Y))
+          rw e (getD-set-other (set (set (set s x t) (x + 256) u) (x + 512) v) (x + 768) (x + 512) w z (λ q. absurd (omega arith))
+          ∙ (getD-set-same (set (set s x t) (x + 256) u) (x + 512) v z (rw (length-set, length-set) (omega arith)) ∙ Y))
       here (suc (suc (suc zero))) L =
           let e : 3 * 256 + x ≡ x + 768 = omega arith in
           rw e (getD-set-same (set (set (set s x t) (x + 256) u) (x + 512) v) (x + 768) w z (rw (length-set, length-set, length-set) (omega arith)) ∙ W)
@@ -100,7 +106,9 @@ module _ {A : Type 0} (z : A) (f : ℕ → ℕ → A) where
       same i I =
           let at : i / 256 * 256 + i % 256 ≡ i = omega arith in
           let at-row : getD s (i / 256 * 256 + i % 256) z ≡ getD (lines (λ l. tab (f l) 256) 4) (i / 256 * 256 + i % 256) z =
-          b (i / 256) (i % 256) (omega arith) (omega arith) ∙ sym (getD-lines 256 (λ l. tab (f l) 256) (λ l. length-tab (f l) 256) 4 (i / 256) (i % 256) z (omega arith) (omega arith) ∙ getD-tab (f (i / 256)) 256 (i % 256) z (omega arith)) in
+          b (i / 256) (i % 256) (omega arith) (omega arith)
+          ∙ sym (getD-lines 256 (λ l. tab (f l) 256) (λ l. length-tab (f l) 256) 4 (i / 256) (i % 256) z (omega arith) (omega arith)
+          ∙ getD-tab (f (i / 256)) 256 (i % 256) z (omega arith)) in
           rw at at at-row
 
 -- ---- products looked up
@@ -112,10 +120,18 @@ looked c v C B =
     let m : (c * 256 + v) % 256 ≡ v = omega arith in
     getD-tab shareAt 768 (c * 256 + v) nan (omega arith) ∙ ap₂ (λ (i j : ℕ). mul binary32 (getD lumaWeights i nan) (ofInt binary32 (pos j))) d m
 
-pub luma-looked : (shares : List Float) → shares ≡ tab shareAt 768 → (samples : List ℕ) (p : ℕ) → getD samples p 0 < 256 → getD samples (p + 1) 0 < 256 → getD samples (p + 2) 0 < 256
-    → add binary32 (add binary32 (getD shares (0 + getD samples p 0) nan) (getD shares (256 + getD samples (p + 1) 0) nan)) (getD shares (512 + getD samples (p + 2) 0) nan) ≡ lumaFrom samples p
+pub luma-looked : (shares : List Float) → shares ≡ tab shareAt 768 → (samples : List ℕ) (p : ℕ) → getD samples p 0 < 256 → getD samples (p + 1) 0 < 256
+    → getD samples (p + 2) 0 < 256
+    → add binary32 (add binary32 (getD shares (0 + getD samples p 0) nan) (getD shares (256 + getD samples (p + 1) 0) nan))
+    (getD shares (512 + getD samples (p + 2) 0) nan) ≡ lumaFrom samples p
 unfolding lumaFrom
-luma-looked shares e samples p r g b = rw (e, looked 0 (getD samples p 0) (omega arith) r, looked 1 (getD samples (p + 1) 0) (omega arith) g, looked 2 (getD samples (p + 2) 0) (omega arith) b) refl
+luma-looked shares e samples p r g b =
+    rw (
+      e,
+      looked 0 (getD samples p 0) (omega arith) r,
+      looked 1 (getD samples (p + 1) 0) (omega arith) g,
+      looked 2 (getD samples (p + 2) 0) (omega arith) b,
+    ) refl
 
 -- ---- four rows of samples
 
@@ -132,7 +148,9 @@ unfolding cappedAt
 capped-own i height h = rw (is-true (ltb i height) (lt→ltb i height h)) refl
 
 -- of four things, by the rows from row 4 g on, the one of row l
-one-row : {A : Type 0} (f : ℕ → A) (g height l : ℕ) → l < 4 → ofFour (f (cappedAt (4 * g) height)) (f (cappedAt (4 * g + 1) height)) (f (cappedAt (4 * g + 2) height)) (f (cappedAt (4 * g + 3) height)) l ≡ f (cappedAt (4 * g + l) height)
+one-row : {A : Type 0} (f : ℕ → A) (g height l : ℕ) → l < 4
+    → ofFour (f (cappedAt (4 * g) height)) (f (cappedAt (4 * g + 1) height)) (f (cappedAt (4 * g + 2) height)) (f (cappedAt (4 * g + 3) height)) l
+    ≡ f (cappedAt (4 * g + l) height)
 unfolding ofFour
 one-row f g height zero h = let e : 4 * g + 0 ≡ 4 * g = omega arith in rw e refl
 one-row f g height (suc zero) h = refl
@@ -150,19 +168,26 @@ part-long n samples a h = let m : a + n - a ≡ n = omega arith in rw m (length-
 
 module _ (width height channels : ℕ) (samples : List ℕ) (g : ℕ) (some : 0 < width) where
   -- the lumas of the four rows are those of the picture's
-  pub line-found : (a b c d : List ℕ) (line : List Float) → let n = width * channels in a ≡ rowOf n samples (cappedAt (4 * g) height) → b ≡ rowOf n samples (cappedAt (4 * g + 1) height) → c ≡ rowOf n samples (cappedAt (4 * g + 2) height) → d ≡ rowOf n samples (cappedAt (4 * g + 3) height)
+  pub line-found : (a b c d : List ℕ) (line : List Float) → let n = width * channels in
+      a ≡ rowOf n samples (cappedAt (4 * g) height) → b ≡ rowOf n samples (cappedAt (4 * g + 1) height) → c ≡ rowOf n samples (cappedAt (4 * g + 2) height)
+      → d ≡ rowOf n samples (cappedAt (4 * g + 3) height)
       → filled (beside (λ l. lumaAt channels (ofFour a b c d l))) (4 * width) line ≡ lumaLine width height channels samples g line
   unfolding lumaLine filled beside
   line-found a b c d line A B C D =
       ap (λ (xs : List Float). xs ++ drop (4 * width) line)
       (tab-same _ _ (4 * width) (λ q Q. rw (A, B, C, D, one-row (rowOf (width * channels) samples) g height (q % 4) (omega arith)) refl))
 
-  lane-luma : (line₀ line : List Float) → line ≡ lumaLine width height channels samples g line₀ → (l x : ℕ) → l < 4 → x < width → lane line l x ≡ fourAt width height channels samples g l x
+  lane-luma : (line₀ line : List Float) → line ≡ lumaLine width height channels samples g line₀ → (l x : ℕ) → l < 4 → x < width
+      → lane line l x ≡ fourAt width height channels samples g l x
   unfolding lane lumaLine
   lane-luma line₀ line e l x h b =
       let f = fourAt width height channels samples g in
       ap (λ (xs : List Float). getD xs (4 * x + l) nan) e ∙ (getD-filled (beside f) (4 * width) (4 * x + l) line₀ nan (omega arith) ∙ beside-at f l x h)
 
-  pub narrowed-four : (line₀ line out : List Float) → line ≡ lumaLine width height channels samples g line₀ → out ≡ lines (λ l. tab (across width 256 (lane line l)) 256) 4 → out ≡ narrowFour width height channels samples g
+  pub narrowed-four : (line₀ line out : List Float) → line ≡ lumaLine width height channels samples g line₀
+      → out ≡ lines (λ l. tab (across width 256 (lane line l)) 256) 4 → out ≡ narrowFour width height channels samples g
   unfolding narrowFour narrowRow
-  narrowed-four line₀ line out e o = o ∙ lines-same _ _ 4 (λ l h. tab-same _ _ 256 (λ x X. across-same width 256 (lane line l) (fourAt width height channels samples g l) x some (λ k K. lane-luma line₀ line e l k h K)))
+  narrowed-four line₀ line out e o =
+      o ∙ lines-same _ _ 4
+      (λ l h. tab-same _ _ 256
+      (λ x X. across-same width 256 (lane line l) (fourAt width height channels samples g l) x some (λ k K. lane-luma line₀ line e l k h K)))

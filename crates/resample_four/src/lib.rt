@@ -1,4 +1,4 @@
-// Four rows at once, for the crate `downsample`. Their lumas stand side by side in a line, that of pixel x of row l in
+// Four rows at once, for the crate `resample_down`. Their lumas stand side by side in a line, that of pixel x of row l in
 // place 4 x + l, so that one instruction serves four sums, each in its own order; and a luma is put together from
 // products that are made once for a picture.
 ghost use mathlib.Core.Path.{_≡_};
@@ -8,7 +8,7 @@ ghost use lib.Ieee.{nan};
 ghost use Rattle.seq.specs.Lists.{tab, filled, lines};
 ghost use Rattle.resample.specs.Resampled.{across};
 ghost use Rattle.resample.specs.Samples.{lumaFrom, lumaAt};
-ghost use Rattle.picture.specs.Sizes.{Sized, longestSide};
+ghost use Rattle.picture.specs.Sizes.{Sized};
 ghost use Rattle.resample.specs.Tables.{Tables};
 ghost use Rattle.resample_four.specs.Four.{beside, ofFour, lane, shareAt, cappedAt, lumaLine, narrowFour};
 
@@ -31,32 +31,13 @@ fn share_of(shares: &[f32], at: usize, v: u8) -> f32
 }
 
 // The luma of the pixel of a row whose samples start at place p.
-fn luma_from(row: &[u8], p: usize, shares: &[f32]) -> f32
+pub fn luma_from(row: &[u8], p: usize, shares: &[f32]) -> f32
     requires { ⌜ (now shares ≡ tab shareAt 768) × (p + 3 ≤ length (now row)) ⌝ }
     ensures { λ r. ⌜ r ≡ lumaFrom (now (row .entry)) p ⌝ }
 {
     share_of(shares, 0, row[p])
         + share_of(shares, 256, row[p + 1])
         + share_of(shares, 512, row[p + 2])
-}
-
-fn luma_row(row: &[u8], channels: usize, shares: &[f32], out: &mut [f32])
-    requires { ⌜ (now shares ≡ tab shareAt 768) × (3 ≤ channels) × (length (now row) ≡ length (now out) * channels) ⌝ }
-    ensures { λ _. ⌜ now (out .exit) ≡ tab (lumaAt channels (now (row .entry))) (length (now (out .entry))) ⌝ }
-{
-    for x in 0..out.len() {
-        out[x] = luma_from(row, x * channels, shares);
-    }
-}
-
-// The luma of a row of pixels: its samples are the picture's from the row's first to its last.
-pub fn luma(row: &[u8], channels: usize, out: &mut [f32])
-    requires { ⌜ (3 ≤ channels) × (channels ≤ 4) × (length (now row) ≡ length (now out) * channels) × (length (now out) ≤ longestSide) ⌝ }
-    ensures { λ _. ⌜ now (out .exit) ≡ tab (lumaAt channels (now (row .entry))) (length (now (out .entry))) ⌝ }
-{
-    let mut products = [0.0f32; 768];
-    shares(&mut products);
-    luma_row(row, channels, &products, out);
 }
 
 // Four values, the first in place q and each `step` places behind the one before it.
@@ -81,8 +62,11 @@ fn luma_four(
     shares: &[f32],
     line: &mut [f32],
 )
-    requires { ⌜ (now shares ≡ tab shareAt 768) × (3 ≤ channels) × (4 * width ≤ length (now line)) × (length (now a) ≡ width * channels) × (length (now b) ≡ width * channels) × (length (now c) ≡ width * channels) × (length (now d) ≡ width * channels) ⌝ }
-    ensures { λ _. ⌜ now (line .exit) ≡ filled (beside (λ l. lumaAt channels (ofFour (now (a .entry)) (now (b .entry)) (now (c .entry)) (now (d .entry)) l))) (4 * width) (now (line .entry)) ⌝ }
+    requires { ⌜ (now shares ≡ tab shareAt 768) × (3 ≤ channels) × (4 * width ≤ length (now line)) × (length (now a) ≡ width * channels)
+        × (length (now b) ≡ width * channels) × (length (now c) ≡ width * channels) × (length (now d) ≡ width * channels) ⌝ }
+    ensures { λ _. ⌜ now (line .exit)
+        ≡ filled (beside (λ l. lumaAt channels (ofFour (now (a .entry)) (now (b .entry)) (now (c .entry)) (now (d .entry)) l))) (4 * width)
+        (now (line .entry)) ⌝ }
 {
     for x in 0..width {
         let p = x * channels;
@@ -172,7 +156,8 @@ pub fn narrow_four(
     line: &mut [f32],
     out: &mut [f32],
 )
-    requires { ⌜ Sized width height channels (now samples) × (now shares ≡ tab shareAt 768) × Tables width 256 (now offsets) (now index) (now weight) × (4 * g < height) × (4 * width ≤ length (now line)) × (length (now out) ≡ 1024) ⌝ }
+    requires { ⌜ Sized width height channels (now samples) × (now shares ≡ tab shareAt 768) × Tables width 256 (now offsets) (now index) (now weight)
+        × (4 * g < height) × (4 * width ≤ length (now line)) × (length (now out) ≡ 1024) ⌝ }
     ensures line { λ _. ⌜ now (line .exit) ≡ lumaLine width height channels (now (samples .entry)) g (now (line .entry)) ⌝ }
     ensures rows { λ _. ⌜ now (out .exit) ≡ narrowFour width height channels (now (samples .entry)) g ⌝ }
 {

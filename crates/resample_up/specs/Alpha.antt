@@ -14,7 +14,8 @@ use Rattle.resample.specs.Pixels.{row-inside}
 use Rattle.resample_up.specs.Changed.{changedLine, changed-length, line-is}
 
 module _ (width height : ℕ) (change : List Float) (samples : List ℕ) (s : Sized width height 4 samples) where
-  pub fourth-kept : (y x : ℕ) → y < height → x < width → getD (changedOf width height 4 change samples) (y * (width * 4) + (x * 4 + 3)) 0 ≡ getD samples (y * (width * 4) + (x * 4 + 3)) 0
+  pub fourth-kept : (y x : ℕ) → y < height → x < width
+      → getD (changedOf width height 4 change samples) (y * (width * 4) + (x * 4 + 3)) 0 ≡ getD samples (y * (width * 4) + (x * 4 + 3)) 0
   unfolding changedOf changedLine changedAt rowOf
   fourth-kept y x Y X =
       let n = width * 4 in

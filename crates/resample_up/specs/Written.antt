@@ -26,7 +26,8 @@ filled-kept {A} f n d z h e = sym (set-getD (filled f n d) n z) ∙ (ap (λ (v :
 
 -- ---- a row put through its taps
 
-pub widened : (n : ℕ) (change : List Float) (k : ℕ) (part out : List Float) → k * 256 + 256 ≤ length change → part ≡ rowOf 256 change k → out ≡ tab (across (length part) n (λ i. getD part i nan)) n → out ≡ wideRow n change k
+pub widened : (n : ℕ) (change : List Float) (k : ℕ) (part out : List Float) → k * 256 + 256 ≤ length change → part ≡ rowOf 256 change k
+    → out ≡ tab (across (length part) n (λ i. getD part i nan)) n → out ≡ wideRow n change k
 unfolding wideRow
 widened n change k part out h e o = rw (e, length-row 256 change k h) at o
 
@@ -51,7 +52,8 @@ module _ (channels : ℕ) (delta : ℕ → Float) (d : List ℕ) (x k : ℕ) (le
   fourth h = rw (channel, is-false (ltb k 3) (le→nltb k 3 h)) refl
 
   -- one sample more: p is sample k of pixel x
-  sample-more : (row : List ℕ) (p q v : ℕ) → k < 3 → p ≡ x * channels + k → q ≡ p + 1 → p < length d → row ≡ filled (changedAt channels delta d) p d → v ≡ roundedByte (add binary32 (sampleValue row p) (delta x)) → set row p v ≡ filled (changedAt channels delta d) q d
+  sample-more : (row : List ℕ) (p q v : ℕ) → k < 3 → p ≡ x * channels + k → q ≡ p + 1 → p < length d → row ≡ filled (changedAt channels delta d) p d
+      → v ≡ roundedByte (add binary32 (sampleValue row p) (delta x)) → set row p v ≡ filled (changedAt channels delta d) q d
   sample-more row p q v h i j l r e =
       let was : getD row p 0 ≡ getD d p 0 = ap (λ (s : List ℕ). getD s p 0) r ∙ filled-at (changedAt channels delta d) p d 0 in
       let is : v ≡ changedAt channels delta d p = rw (e, was, i) (first-three h) in
@@ -79,9 +81,12 @@ module _ (channels : ℕ) (delta : ℕ → Float) (d : List ℕ) (x : ℕ) (thre
       → set (set (set row (x * channels) u) (x * channels + 1) v) (x * channels + 2) w ≡ filled (changedAt channels delta d) ((x + 1) * channels) d
   pixel-more row u v w r e f g =
       let p = x * channels in
-      let one : set row p u ≡ filled (changedAt channels delta d) (p + 1) d = sample-more channels delta d x 0 (omega arith) row p (p + 1) u (omega arith) (omega arith) refl (omega arith) r e in
-      let two : set (set row p u) (p + 1) v ≡ filled (changedAt channels delta d) (p + 2) d = sample-more channels delta d x 1 (omega arith) (set row p u) (p + 1) (p + 2) v (omega arith) refl (omega arith) (omega arith) one f in
-      sample-more channels delta d x 2 (omega arith) (set (set row p u) (p + 1) v) (p + 2) (p + 3) w (omega arith) refl (omega arith) (omega arith) two g ∙ pixel-done
+      let one : set row p u ≡ filled (changedAt channels delta d) (p + 1) d =
+      sample-more channels delta d x 0 (omega arith) row p (p + 1) u (omega arith) (omega arith) refl (omega arith) r e in
+      let two : set (set row p u) (p + 1) v ≡ filled (changedAt channels delta d) (p + 2) d =
+      sample-more channels delta d x 1 (omega arith) (set row p u) (p + 1) (p + 2) v (omega arith) refl (omega arith) (omega arith) one f in
+      sample-more channels delta d x 2 (omega arith) (set (set row p u) (p + 1) v) (p + 2) (p + 3) w (omega arith) refl (omega arith) (omega arith) two g
+      ∙ pixel-done
 
 -- all pixels
 pub changed-all : (channels : ℕ) (delta : ℕ → Float) (d : List ℕ) → filled (changedAt channels delta d) (length d) d ≡ changedRow channels delta d

@@ -55,7 +55,8 @@ fn keep(
     held: &mut [u16],
 ) -> usize
     requires { ⌜ Widening width (now change) (now offsets) (now index) (now weight) (now held) (now rows) × (k < 256) ⌝ }
-    ensures again { λ _. ⌜ Widening width (now (change .entry)) (now (offsets .entry)) (now (index .entry)) (now (weight .entry)) (now (held .exit)) (now (rows .exit)) ⌝ }
+    ensures again { λ _. ⌜ Widening width (now (change .entry)) (now (offsets .entry)) (now (index .entry)) (now (weight .entry)) (now (held .exit))
+        (now (rows .exit)) ⌝ }
     ensures place { λ r. ⌜ r + width ≤ 16384 ⌝ }
     ensures row { λ r. ⌜ take width (drop r (now (rows .exit))) ≡ wideRow width (now (change .entry)) k ⌝ }
 {
@@ -83,8 +84,10 @@ fn add_change_row(
     sum: &mut [f32],
 )
     requires { ⌜ Widening (length (now sum)) (now change) (now offsets) (now index) (now weight) (now held) (now rows) × (k < 256) ⌝ }
-    ensures again { λ _. ⌜ Widening (length (now (sum .entry))) (now (change .entry)) (now (offsets .entry)) (now (index .entry)) (now (weight .entry)) (now (held .exit)) (now (rows .exit)) ⌝ }
-    ensures row { λ _. ⌜ now (sum .exit) ≡ tab (addedAt (now (sum .entry)) q (wideRow (length (now (sum .entry))) (now (change .entry)) k)) (length (now (sum .entry))) ⌝ }
+    ensures again { λ _. ⌜ Widening (length (now (sum .entry))) (now (change .entry)) (now (offsets .entry)) (now (index .entry)) (now (weight .entry))
+        (now (held .exit)) (now (rows .exit)) ⌝ }
+    ensures row { λ _. ⌜ now (sum .exit)
+        ≡ tab (addedAt (now (sum .entry)) q (wideRow (length (now (sum .entry))) (now (change .entry)) k)) (length (now (sum .entry))) ⌝ }
 {
     let width = sum.len();
     let at = keep(k, width, change, offsets, index, weight, rows, held);
@@ -103,8 +106,10 @@ fn add_window(
     held: &mut [u16],
     sum: &mut [f32],
 )
-    requires { ⌜ Widening (length (now sum)) (now change) (now offsets) (now index) (now weight) (now held) (now rows) × Small w × (now sum ≡ sumRows (length (now sum)) (wideRow (length (now sum)) (now change)) []) ⌝ }
-    ensures again { λ _. ⌜ Widening (length (now (sum .entry))) (now (change .entry)) (now (offsets .entry)) (now (index .entry)) (now (weight .entry)) (now (held .exit)) (now (rows .exit)) ⌝ }
+    requires { ⌜ Widening (length (now sum)) (now change) (now offsets) (now index) (now weight) (now held) (now rows) × Small w
+        × (now sum ≡ sumRows (length (now sum)) (wideRow (length (now sum)) (now change)) []) ⌝ }
+    ensures again { λ _. ⌜ Widening (length (now (sum .entry))) (now (change .entry)) (now (offsets .entry)) (now (index .entry)) (now (weight .entry))
+        (now (held .exit)) (now (rows .exit)) ⌝ }
     ensures row { λ _. ⌜ now (sum .exit) ≡ sumRows (length (now (sum .entry))) (wideRow (length (now (sum .entry))) (now (change .entry))) (tapsOf w 256) ⌝ }
 {
     let first = w.first;
@@ -142,7 +147,8 @@ fn change_row(
     out: &mut [f32],
 )
     requires { ⌜ Widening (length (now out)) (now change) (now offsets) (now index) (now weight) (now held) (now rows) ⌝ }
-    ensures again { λ _. ⌜ Widening (length (now (out .entry))) (now (change .entry)) (now (offsets .entry)) (now (index .entry)) (now (weight .entry)) (now (held .exit)) (now (rows .exit)) ⌝ }
+    ensures again { λ _. ⌜ Widening (length (now (out .entry))) (now (change .entry)) (now (offsets .entry)) (now (index .entry)) (now (weight .entry))
+        (now (held .exit)) (now (rows .exit)) ⌝ }
     ensures row { λ _. ⌜ now (out .exit) ≡ changeRow (length (now (out .entry))) height (now (change .entry)) y ⌝ }
 {
     zero_floats(out);
@@ -193,7 +199,8 @@ fn change_rows(
     delta: &mut [f32],
     samples: &mut [u8],
 )
-    requires { ⌜ Widening width (now change) (now offsets) (now index) (now weight) (now held) (now rows) × Sized width height channels (now samples) × (length (now delta) ≡ width) ⌝ }
+    requires { ⌜ Widening width (now change) (now offsets) (now index) (now weight) (now held) (now rows) × Sized width height channels (now samples)
+        × (length (now delta) ≡ width) ⌝ }
     ensures { λ _. ⌜ now (samples .exit) ≡ changedOf width height channels (now (change .entry)) (now (samples .entry)) ⌝ }
 {
     let n = width * channels;

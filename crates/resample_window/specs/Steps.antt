@@ -43,7 +43,8 @@ module _ (w : Window) (src n : ℕ) where
   unfolding tapsTo
   taps-without e = rw (add-one, e) (sym (append-nil (tapsTo w src n)))
 
-  pub taps-with : (q : Float) → weightOf w (w .first +ℤ pos n) ≡ Of q → tapsTo w src (n + 1) ≡ tapsTo w src n ++ (record { from = clampOf src (w .first +ℤ pos n); weight = q } ∷ [])
+  pub taps-with : (q : Float) → weightOf w (w .first +ℤ pos n) ≡ Of q
+      → tapsTo w src (n + 1) ≡ tapsTo w src n ++ (record { from = clampOf src (w .first +ℤ pos n); weight = q } ∷ [])
   unfolding tapsTo
   taps-with q e = rw (add-one, e) refl
 

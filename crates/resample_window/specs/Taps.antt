@@ -20,11 +20,14 @@ window-small w src dst i e = rw e (first-small src dst i, last-small src dst i)
 
 module _ {A : Type 0} (f : Tap → A) (d : List A) (n : ℕ) (ts : List Tap) where
   -- one tap more
-  pub laid-more : (m : ℕ) (t : Tap) (x : List A) → n + m < length d → m < length ts → getD ts m t ≡ t → x ≡ paste d n (map f ts) m → set x (n + m) (f t) ≡ paste d n (map f ts) (m + 1)
+  pub laid-more : (m : ℕ) (t : Tap) (x : List A) → n + m < length d → m < length ts → getD ts m t ≡ t → x ≡ paste d n (map f ts) m
+      → set x (n + m) (f t) ≡ paste d n (map f ts) (m + 1)
   laid-more m t x h l e p =
       let long : m < length (map f ts) = omega (arith, length-map ts f) in
       let v : getD (map f ts) m (f t) ≡ f t = List·getD-map f ts m t ∙ ap f e in
-      ap (λ (xs : List A). set xs (n + m) (f t)) p ∙ (ap (λ (y : A). set (paste d n (map f ts) m) (n + m) y) (sym v) ∙ (paste-suc d n (map f ts) m (f t) h long ∙ ap (paste d n (map f ts)) (sym (add-one m))))
+      ap (λ (xs : List A). set xs (n + m) (f t)) p
+      ∙ (ap (λ (y : A). set (paste d n (map f ts) m) (n + m) y) (sym v)
+      ∙ (paste-suc d n (map f ts) m (f t) h long ∙ ap (paste d n (map f ts)) (sym (add-one m))))
 
 -- ---- all of them, in the first places of a list
 
@@ -36,7 +39,9 @@ module _ {A : Type 0} where
       let cut : take n x ≡ s = ap (take n) p ∙ take-at s (drop (length s) d) n e in
       let all : take m t ≡ t = take-all m t (omega arith) in
       let rest : drop (n + m) x ≡ drop (length (s ++ t)) d =
-      ap (drop (n + m)) p ∙ (ap (λ (k : ℕ). drop (k + m) (s ++ drop (length s) d)) (sym e) ∙ (drop-append-add s (drop (length s) d) m ∙ (drop-drop m (length s) d ∙ ap (λ (k : ℕ). drop k d) (ap (λ (k : ℕ). length s + k) (sym f) ∙ sym (length-append s t))))) in
+      ap (drop (n + m)) p ∙ (ap (λ (k : ℕ). drop (k + m) (s ++ drop (length s) d)) (sym e)
+      ∙ (drop-append-add s (drop (length s) d) m
+      ∙ (drop-drop m (length s) d ∙ ap (λ (k : ℕ). drop k d) (ap (λ (k : ℕ). length s + k) (sym f) ∙ sym (length-append s t))))) in
       rw (cut, all, rest) refl
 
   pub length-onto : (s d : List A) → length s ≤ length d → length (onto s d) ≡ length d
@@ -73,10 +78,12 @@ module _ {A : Type 0} (f : Tap → A) (src dst : ℕ) where
   all-none d = refl
 
   -- pushed behind those of the samples before
-  pub all-pushed : (i : ℕ) (d x : List A) → x ≡ onto (map f (allTaps src dst i)) d → paste x (start src dst i) (map f (taps src dst i)) (length (taps src dst i)) ≡ onto (map f (allTaps src dst (i + 1))) d
+  pub all-pushed : (i : ℕ) (d x : List A) → x ≡ onto (map f (allTaps src dst i)) d
+      → paste x (start src dst i) (map f (taps src dst i)) (length (taps src dst i)) ≡ onto (map f (allTaps src dst (i + 1))) d
   unfolding start
   all-pushed i d x e =
-      onto-more (map f (allTaps src dst i)) (map f (taps src dst i)) d x (length (allTaps src dst i)) (length (taps src dst i)) (length-map (allTaps src dst i) f) (length-map (taps src dst i) f) e
+      onto-more (map f (allTaps src dst i)) (map f (taps src dst i)) d x (length (allTaps src dst i)) (length (taps src dst i))
+      (length-map (allTaps src dst i) f) (length-map (taps src dst i) f) e
       ∙ ap (λ (s : List A). onto s d) (sym (map-append f (allTaps src dst i) (taps src dst i)) ∙ ap (map f) (sym (all-more src dst i)))
 
   pub all-length : (i : ℕ) (d : List A) → start src dst i ≤ length d → length (onto (map f (allTaps src dst i)) d) ≡ length d

@@ -1,4 +1,5 @@
--- The triangle kernel, from document 01, "Resampling and samples": the window of an output sample, the tent and the weight of a source number, and the taps, the numbers that have a weight, clamped to the edge. Definitions only.
+-- The triangle kernel (section 15 of the scope): the window of an output sample, the tent and the weight of a
+-- source number, and the taps, the numbers that have a weight, clamped to the edge. Definitions only.
 use mathlib.Core.Bool.{Bool, cond, _&&_}
 use mathlib.Core.List.{List, [], _∷_, _++_, map}
 use Prim.Native.Nat.{ℕ, zero, suc, min, _-_, _<_, _^_}

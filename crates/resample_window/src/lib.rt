@@ -1,6 +1,6 @@
-// The triangle kernel of document 01, for the crates `downsample` and `upsample`: which source numbers each output sample reads, and
-// with what weights. `Window`, `tent`, `weight` and `taps` are those of the Rust. Every promise is an equation over
-// the definitions in specs/Window.antt; what bounds a window, its taps and its weights stands beside them.
+// The triangle kernel (section 15 of the scope): which source numbers each output sample reads, and with what weights.
+// `Window`, `tent`, `weight` and `taps` are those of the Rust. Every promise is an equation over the definitions in
+// specs/Window.antt; what bounds a window, its taps and its weights is the crate `resample_window_laws`.
 ghost use mathlib.Core.Path.{_≡_};
 ghost use Prim.Native.Nat.{_+_, _≤_, _<_, _^_};
 ghost use lib.IntN.{pos, _+ℤ_};
@@ -8,7 +8,8 @@ ghost use lib.ListN.{length};
 ghost use lib.Seq.{paste};
 ghost use lib.Signed.{mag};
 ghost use Rattle.seq.specs.Lists.{filled};
-ghost use Rattle.resample_window.specs.Window.{tentOf, weightOf, tentSum, numbers, isSide, hasWindow, empty, unsummed, withSum, windowOf, clampOf, tapsOf, Small, start, tapSources, tapWeights, allTaps, onto};
+ghost use Rattle.resample_window.specs.Window.{tentOf, weightOf, tentSum, numbers, isSide, hasWindow, empty, unsummed, withSum, windowOf};
+ghost use Rattle.resample_window.specs.Window.{clampOf, tapsOf, Small, start, tapSources, tapWeights, allTaps, onto};
 use float::abs_f64;
 use float::ceil_f64_to_i64;
 use float::floor_f64_to_i64;
@@ -201,7 +202,8 @@ fn push(w: Window, src: usize, n: usize, index: &mut [u16], weight: &mut [f32]) 
 // The taps of every output sample, one behind the other: those of sample i stand from offsets[i] up to, not
 // including, offsets[i + 1]. Places beyond them stay.
 pub fn taps(src: usize, dst: usize, offsets: &mut [u16], index: &mut [u16], weight: &mut [f32])
-    requires { ⌜ (0 < src) × (src ≤ 8192) × (dst ≤ 8192) × (dst < length (now offsets)) × (start src dst dst ≤ length (now index)) × (length (now weight) ≡ length (now index)) × (length (now index) ≤ 16384) ⌝ }
+    requires { ⌜ (0 < src) × (src ≤ 8192) × (dst ≤ 8192) × (dst < length (now offsets)) × (start src dst dst ≤ length (now index))
+        × (length (now weight) ≡ length (now index)) × (length (now index) ≤ 16384) ⌝ }
     ensures bounds { λ _. ⌜ now (offsets .exit) ≡ filled (start src dst) (dst + 1) (now (offsets .entry)) ⌝ }
     ensures from { λ _. ⌜ now (index .exit) ≡ onto (tapSources (allTaps src dst dst)) (now (index .entry)) ⌝ }
     ensures with { λ _. ⌜ now (weight .exit) ≡ onto (tapWeights (allTaps src dst dst)) (now (weight .entry)) ⌝ }

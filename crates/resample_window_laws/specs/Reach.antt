@@ -1,11 +1,14 @@
--- How many taps a window has: a number with a positive tent lies less than `reach`, the least whole number that is at least src / dst, from the centre, so there are at most 2 * reach of them.
+-- How many taps a window has: a number with a positive tent lies less than `reach`, the least whole number that is at least src
+-- / dst, from the centre, so there are at most 2 * reach of them.
 -- In units of the smallest float the distance is exact, and every step after it is a rounding, which keeps the order. A tap reads inside the source.
 use mathlib.Core.Path.{_≡_, refl, sym, ap, _∙_, subst}
 use mathlib.Core.Logic.{_⊎_, inl, inr}
 use mathlib.Core.Bool.{Bool, true, false, not, cond, true≢false}
 use mathlib.Core.List.{List, [], _∷_, _++_}
 use Prim.Native.Nat.{ℕ, zero, suc, _+_, _-_, _*_, _/_, _^_, _≤_, _<_, zero-le, suc-le-suc}
-use native.Mathlib.Nat.{le-of-suc-le-suc, le-refl, le-trans, le-of-eq, lt-of-lt-of-le, lt-of-not-le, zero-lt-suc, mul-one, one-mul, zero-mul, mul-comm, mul-assoc, mul-pos, mul-le-mul, mul-le-mul-right, add-mul, suc-mul, lt-of-mul-lt-mul-right, lt-div-mul-add, div-lt-iff-lt-mul, le-div-iff-mul-le}
+use native.Mathlib.Nat.{le-of-suc-le-suc, le-refl, le-trans, le-of-eq, lt-of-lt-of-le, lt-of-not-le, zero-lt-suc, mul-one, one-mul, zero-mul}
+use native.Mathlib.Nat.{mul-comm, mul-assoc, mul-pos, mul-le-mul, mul-le-mul-right, add-mul, suc-mul, lt-of-mul-lt-mul-right, lt-div-mul-add}
+use native.Mathlib.Nat.{div-lt-iff-lt-mul, le-div-iff-mul-le}
 use native.Mathlib.Omega.{arith}
 use lib.IntN.{ℤ, pos, negsuc, negℤ, natAbs, _+ℤ_, _-ℤ_, _*ℤ_, sucℤ-*ℤ, +ℤ-sucℤ, +ℤ-assoc, +ℤ-comm, +ℤ-idr}
 use lib.ListN.{length, getD, length-append}
@@ -32,7 +35,8 @@ use Rattle.float_laws.specs.Bounds.{holds-whole, round-within, within-finite}
 use Rattle.resample_window.specs.declared.Window.{Window}
 use Rattle.resample_window.specs.declared.Weight.{Weight}
 use Rattle.resample_window.specs.declared.Weight.the-variants.{Of, Nothing}
-use Rattle.resample_window.specs.Window.{tentOf, weightOf, numbers, centerOf, supportOf, unsummed, withSum, empty, windowOf, Tap, clampOf, tapOf, tapsTo, tapsOf, taps}
+use Rattle.resample_window.specs.Window.{tentOf, weightOf, numbers, centerOf, supportOf, unsummed, withSum, empty, windowOf, Tap, clampOf, tapOf}
+use Rattle.resample_window.specs.Window.{tapsTo, tapsOf, taps}
 use Rattle.picture.specs.Sizes.{longestSide}
 use Rattle.resample_window.specs.Signed.{clamp-below}
 use Rattle.resample_window_laws.specs.Support.{one-is, Between, support-between, center-fits, natAbs-add, window-numbers-small}
@@ -87,7 +91,8 @@ no-more (fin true m e) h = refl
 no-more (fin false m e) h = is-false (ltb (0 * 1 * down e) (m * up e * 1)) (le→nltb (0 * 1 * down e) (m * up e * 1) h)
 
 zero-round : (f : Format) (c : ℕ) → 0 < c → lt zero+ (round f false 0 c) ≡ false
-zero-round f c C = no-more (round f false 0 c) (round-within f false 0 c 0 1 C (zero-lt-suc 0) (holds-whole f 0 zero-le) (le-of-eq (zero-mul 1 ∙ sym (zero-mul c))))
+zero-round f c C = no-more (round f false 0 c)
+    (round-within f false 0 c 0 1 C (zero-lt-suc 0) (holds-whole f 0 zero-le) (le-of-eq (zero-mul 1 ∙ sym (zero-mul c))))
 
 pub at-most-sum : (f : Format) (c a : ℕ) → 0 < c → c ≤ a → lt zero+ (sum f false c true a c) ≡ false
 unfolding sum
@@ -109,7 +114,8 @@ less-one f (fin true m e) t =
     absurd (omega arith)
 less-one f (fin false m e) t =
     ap (λ (z : Float). lt zero+ z) (sub-at f float-one (fin false m e) false false (down e) (m * up e) (down e) (down-pos e) (one-is (down e)) (refl, refl))
-    ∙ at-most-sum f (down e) (m * up e) (down-pos e) (at-most float-one (fin false m e) (down e) (m * up e) (down e) (down-pos e) (one-is (down e)) (refl, refl) t)
+    ∙ at-most-sum f (down e) (m * up e) (down-pos e)
+    (at-most float-one (fin false m e) (down e) (m * up e) (down e) (down-pos e) (one-is (down e)) (refl, refl) t)
 
 -- ---- the size of a rounded fraction is the rounded size
 
@@ -152,10 +158,13 @@ round-one binary32 = refl
 round-one binary64 = refl
 
 -- the quotient of two values, the first the larger
-wide-quotient : (f : Format) (d s : Float) (t : Bool) (g S U : ℕ) → 0 < U → 0 < S → S ≤ g → HasValue d t g U → HasValue s false S U → T (le float-one (absolute (div f d s)))
+wide-quotient : (f : Format) (d s : Float) (t : Bool) (g S U : ℕ) → 0 < U → 0 < S → S ≤ g → HasValue d t g U → HasValue s false S U
+    → T (le float-one (absolute (div f d s)))
 wide-quotient f d s t g S U P Q h v w =
-    let e : absolute (div f d s) ≡ round f false (g * U) (U * S) = ap absolute (div-value-at f d s t false g U S U P Q P v w) ∙ absolute-round f (unlike t false) (g * U) (U * S) in
-    let k : 1 * (U * S) ≤ g * U * 1 = le-trans (le-of-eq (one-mul (U * S) ∙ mul-comm U S)) (le-trans (mul-le-mul-right U h) (le-of-eq (sym (mul-one (g * U))))) in
+    let e : absolute (div f d s) ≡ round f false (g * U) (U * S) =
+    ap absolute (div-value-at f d s t false g U S U P Q P v w) ∙ absolute-round f (unlike t false) (g * U) (U * S) in
+    let k : 1 * (U * S) ≤ g * U * 1 =
+    le-trans (le-of-eq (one-mul (U * S) ∙ mul-comm U S)) (le-trans (mul-le-mul-right U h) (le-of-eq (sym (mul-one (g * U))))) in
     let m : T (le (round f false 1 1) (round f false (g * U) (U * S))) = round-mono f 1 1 (g * U) (U * S) (zero-lt-suc 0) (mul-pos P Q) k in
     subst (λ (z : Float). T (le float-one z)) (sym e) (subst (λ (z : Float). T (le z (round f false (g * U) (U * S)))) (round-one f) m)
 
@@ -166,7 +175,8 @@ inf-quotient f t (inf u) S U w = absurd w
 inf-quotient f t (fin u m e) S U w = refl
 
 -- a fraction of at least r rounds to at least r
-holds-below : (f : Format) (t : Bool) (n r : ℕ) → Holds f r 1 → r * 2 ^ low f ≤ n → HasValue (round f t n (2 ^ low f)) t (grid f n (2 ^ low f)) (2 ^ low f) → r * 2 ^ low f ≤ grid f n (2 ^ low f)
+holds-below : (f : Format) (t : Bool) (n r : ℕ) → Holds f r 1 → r * 2 ^ low f ≤ n → HasValue (round f t n (2 ^ low f)) t (grid f n (2 ^ low f)) (2 ^ low f)
+    → r * 2 ^ low f ≤ grid f n (2 ^ low f)
 holds-below f t n r H h v =
     let U = 2 ^ low f in
     let P : 0 < U = pow-pos (low f) in
@@ -175,28 +185,48 @@ holds-below f t n r H h v =
     (subst (λ (z : ℕ). HasValue (round f false r 1) false (r * U) z) (one-mul U) (value-scale (round f false r 1) false r 1 U H))
     (same t v) m
   where
-    same : (t : Bool) → HasValue (round f t n (2 ^ low f)) t (grid f n (2 ^ low f)) (2 ^ low f) → HasValue (round f false n (2 ^ low f)) false (grid f n (2 ^ low f)) (2 ^ low f)
+    same : (t : Bool) → HasValue (round f t n (2 ^ low f)) t (grid f n (2 ^ low f)) (2 ^ low f)
+        → HasValue (round f false n (2 ^ low f)) false (grid f n (2 ^ low f)) (2 ^ low f)
     same false k = k
-    same true k = subst (λ (z : Float). HasValue z false (grid f n (2 ^ low f)) (2 ^ low f)) (neg-round f true n (2 ^ low f)) (neg-value (round f true n (2 ^ low f)) true (grid f n (2 ^ low f)) (2 ^ low f) k)
+    same true k = subst (λ (z : Float). HasValue z false (grid f n (2 ^ low f)) (2 ^ low f)) (neg-round f true n (2 ^ low f))
+        (neg-value (round f true n (2 ^ low f)) true (grid f n (2 ^ low f)) (2 ^ low f) k)
 
-far-round : (f : Format) (t : Bool) (n r : ℕ) (s : Float) → Holds f r 1 → Between f s r → r * 2 ^ low f ≤ n → lt zero+ (tentAt f (round f t n (2 ^ low f)) s) ≡ false
+far-round : (f : Format) (t : Bool) (n r : ℕ) (s : Float) → Holds f r 1 → Between f s r → r * 2 ^ low f ≤ n
+    → lt zero+ (tentAt f (round f t n (2 ^ low f)) s) ≡ false
 far-round f t n r s H w h =
     elim (round-shape f t n (2 ^ low f)) [
       | inl e ↦ ap (λ (z : Float). lt zero+ (tentAt f z s)) e ∙ inf-quotient f t s (w .size) (2 ^ low f) (w .value)
       | inr v ↦
           less-one f (absolute (div f (round f t n (2 ^ low f)) s))
-          (wide-quotient f (round f t n (2 ^ low f)) s t (grid f n (2 ^ low f)) (w .size) (2 ^ low f) (pow-pos (low f)) (lt-of-lt-of-le (pow-pos (low f)) (w .least)) (le-trans (w .greatest) (holds-below f t n r H h v)) v (w .value))
+          (wide-quotient f (round f t n (2 ^ low f)) s t (grid f n (2 ^ low f)) (w .size) (2 ^ low f) (pow-pos (low f))
+          (lt-of-lt-of-le (pow-pos (low f)) (w .least)) (le-trans (w .greatest) (holds-below f t n r H h v)) v (w .value))
     ]
 
 -- a whole number in units
 whole-is : (f : Format) (j : ℤ) (U : ℕ) → natAbs j ≤ 2 ^ prec f → Is U (ofInt f j) (j *ℤ pos U)
 unfolding ofInt
-whole-is f (pos n) U h = record { sign = false; size = n * U; value = subst (λ (z : ℕ). HasValue (round f false n 1) false (n * U) z) (one-mul U) (value-scale (round f false n 1) false n 1 U (round-whole f false n h)); whole = refl }
+whole-is f (pos n) U h =
+    record {
+      sign = false;
+      size = n * U;
+      value =
+          subst (λ (z : ℕ). HasValue (round f false n 1) false (n * U) z) (one-mul U)
+          (value-scale (round f false n 1) false n 1 U (round-whole f false n h));
+      whole = refl;
+    }
 whole-is f (negsuc n) U h =
-    record { sign = true; size = suc n * U; value = subst (λ (z : ℕ). HasValue (round f true (suc n) 1) true (suc n * U) z) (one-mul U) (value-scale (round f true (suc n) 1) true (suc n) 1 U (round-whole f true (suc n) h)); whole = refl }
+    record {
+      sign = true;
+      size = suc n * U;
+      value =
+          subst (λ (z : ℕ). HasValue (round f true (suc n) 1) true (suc n * U) z) (one-mul U)
+          (value-scale (round f true (suc n) 1) true (suc n) 1 U (round-whole f true (suc n) h));
+      whole = refl;
+    }
 
 -- how far the number j is from the centre z, in units
-far : (f : Format) (c s : Float) (j z : ℤ) (r : ℕ) → natAbs j ≤ 2 ^ prec f → Is (2 ^ low f) c z → Holds f r 1 → Between f s r → r * 2 ^ low f ≤ natAbs (j *ℤ pos (2 ^ low f) -ℤ z) → lt zero+ (tentAt f (sub f (ofInt f j) c) s) ≡ false
+far : (f : Format) (c s : Float) (j z : ℤ) (r : ℕ) → natAbs j ≤ 2 ^ prec f → Is (2 ^ low f) c z → Holds f r 1 → Between f s r
+    → r * 2 ^ low f ≤ natAbs (j *ℤ pos (2 ^ low f) -ℤ z) → lt zero+ (tentAt f (sub f (ofInt f j) c) s) ≡ false
 unfolding sub
 far f c s j z r J h H w l =
     let o = add-once f (2 ^ low f) (pow-pos (low f)) (whole-is f j (2 ^ low f) J) (is-neg h) in
@@ -298,7 +328,8 @@ taps-count w src (suc n) =
     ∙ ap (λ (z : ℕ). count (isReached w) n + z) (tap-count w (w .first +ℤ pos n) (clampOf src (w .first +ℤ pos n)))
 
 -- a positive tent at j: j is less than r from the centre z, in units
-pub tent-near : (w : Window) (z j : ℤ) (r : ℕ) → Is (2 ^ low binary64) (w .center) z → Between binary64 (w .support) r → r ≤ longestSide → natAbs j ≤ 2 ^ prec binary64 → T (lt zero+ (tentOf w j))
+pub tent-near : (w : Window) (z j : ℤ) (r : ℕ) → Is (2 ^ low binary64) (w .center) z → Between binary64 (w .support) r → r ≤ longestSide
+    → natAbs j ≤ 2 ^ prec binary64 → T (lt zero+ (tentOf w j))
     → natAbs (j *ℤ pos (2 ^ low binary64) -ℤ z) < r * 2 ^ low binary64
 unfolding tentOf
 tent-near w z j r h b R J t =
@@ -311,7 +342,8 @@ place-small j k h l = le-trans (natAbs-add j (pos k)) (omega arith)
 place-more : (j : ℤ) (a b : ℕ) → a < b → j +ℤ pos b ≡ j +ℤ pos a +ℤ pos (b - a)
 place-more j a b h = ap (λ (z : ℕ). j +ℤ pos z) (let e : b ≡ a + (b - a) = omega arith in e) ∙ sym (+ℤ-assoc j (pos a) (pos (b - a)))
 
-pub window-few : (w : Window) (src r n : ℕ) (z : ℤ) → Is (2 ^ low binary64) (w .center) z → Between binary64 (w .support) r → 1 ≤ r → r ≤ longestSide → natAbs (w .first) ≤ span → n ≤ 2 ^ 31 → length (tapsTo w src n) ≤ 2 * r
+pub window-few : (w : Window) (src r n : ℕ) (z : ℤ) → Is (2 ^ low binary64) (w .center) z → Between binary64 (w .support) r → 1 ≤ r → r ≤ longestSide
+    → natAbs (w .first) ≤ span → n ≤ 2 ^ 31 → length (tapsTo w src n) ≤ 2 * r
 window-few w src r n z h b P R F N =
     le-trans (le-of-eq (taps-count w src n)) (count-few (isReached w) (2 * r) n (omega arith) spread)
   where
@@ -324,7 +356,8 @@ window-few w src r n z h b P R F N =
         (subst (λ (v : ℤ). natAbs (v *ℤ pos (2 ^ low binary64) -ℤ z) < r * 2 ^ low binary64) (place-more (w .first) a c l) (near c m q))
 
 pub support-reach : (src dst : ℕ) → 0 < src → src ≤ longestSide → 0 < dst → dst ≤ longestSide → Between binary64 (supportOf src dst) (reach src dst)
-support-reach src dst A B C D = support-between src dst (reach src dst) B C D (reach-pos src dst A C) (le-trans (reach-top src dst C) B) (reach-covers src dst C)
+support-reach src dst A B C D =
+    support-between src dst (reach src dst) B C D (reach-pos src dst A C) (le-trans (reach-top src dst C) B) (reach-covers src dst C)
 
 no-taps : (src : ℕ) → length (tapsOf empty src) ≡ 0
 unfolding numbers tapsTo
@@ -336,9 +369,11 @@ taps-few src dst i =
     window-cases (λ (w : Window). natAbs (w .first) ≤ span → numbers (w .first) (w .last) ≤ 2 ^ 31 → length (tapsOf w src) ≤ 2 * reach src dst) src dst i
     (λ F N. le-trans (le-of-eq (no-taps src)) zero-le)
     (λ A B C D I F N.
-    let z = every-finite binary64 (centerOf src dst i) (center-fits src dst i) (within-finite (centerOf src dst i) (2 ^ 14 + 1) 1 (center-within src dst i B C D I)) in
+    let z = every-finite binary64 (centerOf src dst i) (center-fits src dst i)
+    (within-finite (centerOf src dst i) (2 ^ 14 + 1) 1 (center-within src dst i B C D I)) in
     let w = withSum (unsummed (centerOf src dst i) (supportOf src dst)) in
-    window-few w src (reach src dst) (numbers (w .first) (w .last)) (z .0) (z .1) (support-reach src dst A B C D) (reach-pos src dst A C) (le-trans (reach-top src dst C) B) F N)
+    window-few w src (reach src dst) (numbers (w .first) (w .last)) (z .0) (z .1) (support-reach src dst A B C D) (reach-pos src dst A C)
+    (le-trans (reach-top src dst C) B) F N)
     (first-within src dst i) (window-numbers-small src dst i)
 
 -- ---- room for the taps of 256 samples, and of 256 samples' enlargement
@@ -358,7 +393,8 @@ taps-room-up dst h k =
 -- ---- a tap reads inside the source
 
 -- each of two lists, so each of both
-pub each-append : (P : Tap → Type 0) (xs ys : List Tap) (z : Tap) → ((n : ℕ) → n < length xs → P (getD xs n z)) → ((n : ℕ) → n < length ys → P (getD ys n z)) → (n : ℕ) → n < length (xs ++ ys) → P (getD (xs ++ ys) n z)
+pub each-append : (P : Tap → Type 0) (xs ys : List Tap) (z : Tap) → ((n : ℕ) → n < length xs → P (getD xs n z))
+    → ((n : ℕ) → n < length ys → P (getD ys n z)) → (n : ℕ) → n < length (xs ++ ys) → P (getD (xs ++ ys) n z)
 each-append P [] ys z h k n l = k n l
 each-append P (x ∷ xs) ys z h k zero l = h 0 (zero-lt-suc (length xs))
 each-append P (x ∷ xs) ys z h k (suc n) l = each-append P xs ys z (λ m q. h (suc m) (suc-le-suc q)) k n (le-of-suc-le-suc l)
@@ -372,7 +408,8 @@ pub tapsTo-from : (w : Window) (src : ℕ) (z : Tap) → 0 < src → (n m : ℕ)
 unfolding tapsTo
 tapsTo-from w src z h zero m l = absurd (let k : m < 0 = l in omega arith)
 tapsTo-from w src z h (suc n) m l =
-    each-append (λ (t : Tap). t .from < src) (tapsTo w src n) (tapOf (weightOf w (w .first +ℤ pos n)) (clampOf src (w .first +ℤ pos n))) z (tapsTo-from w src z h n)
+    each-append (λ (t : Tap). t .from < src) (tapsTo w src n) (tapOf (weightOf w (w .first +ℤ pos n)) (clampOf src (w .first +ℤ pos n))) z
+    (tapsTo-from w src z h n)
     (tap-inside src (weightOf w (w .first +ℤ pos n)) (clampOf src (w .first +ℤ pos n)) z (clamp-below (w .first +ℤ pos n) src h)) m l
 
 pub taps-from : (src dst i : ℕ) (z : Tap) → 0 < src → (n : ℕ) → n < length (taps src dst i) → getD (taps src dst i) n z .from < src

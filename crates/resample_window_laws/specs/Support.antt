@@ -50,7 +50,9 @@ most-between : (f : Format) (x : Float) (g r : ℕ) → 1 ≤ r → HasValue x f
 unfolding larger
 most-between f x g r R v l =
     subst (λ (b : Bool). Between f (cond b (two-to 0) (cond (lt x (two-to 0)) (two-to 0) x)) r) (sym (number x false g (2 ^ low f) v))
-    (subst (λ (b : Bool). Between f (cond b (two-to 0) x) r) (sym (lt-at x (two-to 0) false false g (2 ^ low f) (2 ^ low f) (pow-pos (low f)) v (one-is (2 ^ low f)))) (go (ltb g (2 ^ low f)) (nltb→le g (2 ^ low f))))
+    (subst (λ (b : Bool). Between f (cond b (two-to 0) x) r)
+    (sym (lt-at x (two-to 0) false false g (2 ^ low f) (2 ^ low f) (pow-pos (low f)) v (one-is (2 ^ low f))))
+    (go (ltb g (2 ^ low f)) (nltb→le g (2 ^ low f))))
   where
     go : (b : Bool) → (T (not b) → 2 ^ low f ≤ g) → Between f (cond b (two-to 0) x) r
     go true k = record { size = 2 ^ low f; value = one-is (2 ^ low f); least = le-refl (2 ^ low f); greatest = at-least-own r (2 ^ low f) R }
@@ -61,13 +63,16 @@ round-between f a c r C R H h =
     let w : Within (round f false a c) r 1 = round-within f false a c r 1 C (zero-lt-suc 0) H (le-trans (le-of-eq (mul-one a)) h) in
     elim (round-shape f false a c) [
       | inl e ↦ absurd (subst (λ (z : Float). Within z r 1) e w)
-      | inr v ↦ most-between f (round f false a c) (grid f a c) r R v (size-within f (round f false a c) (pos (grid f a c)) r (record { sign = false; size = grid f a c; value = v; whole = refl }) w)
+      | inr v ↦ most-between f (round f false a c) (grid f a c) r R v
+          (size-within f (round f false a c) (pos (grid f a c)) r (record { sign = false; size = grid f a c; value = v; whole = refl }) w)
     ]
 
-pub support-between : (src dst r : ℕ) → src ≤ longestSide → 0 < dst → dst ≤ longestSide → 1 ≤ r → r ≤ longestSide → src ≤ r * dst → Between binary64 (supportOf src dst) r
+pub support-between : (src dst r : ℕ) → src ≤ longestSide → 0 < dst → dst ≤ longestSide → 1 ≤ r → r ≤ longestSide → src ≤ r * dst
+    → Between binary64 (supportOf src dst) r
 unfolding supportOf
 support-between src dst r B C D R Q h =
-    subst (λ (z : Float). Between binary64 (larger z (two-to 0)) r) (sym (scale-is src dst B C D)) (round-between binary64 src dst r C R (holds-whole binary64 r (le-trans Q (lit≤ tt))) h)
+    subst (λ (z : Float). Between binary64 (larger z (two-to 0)) r) (sym (scale-is src dst B C D))
+    (round-between binary64 src dst r C R (holds-whole binary64 r (le-trans Q (lit≤ tt))) h)
 
 pub center-fits : (src dst i : ℕ) → T (fits binary64 (centerOf src dst i))
 unfolding centerOf

@@ -1,10 +1,12 @@
--- The weights of a window's taps are finite, with the sign clear, and at most 1. A positive tent is at least 2 ^ -53, since a float below 1 leaves that much; a sum of tents is at least each of them, and narrowing keeps the order,
+-- The weights of a window's taps are finite, with the sign clear, and at most 1. A positive tent is at least 2 ^ -53, since a
+-- float below 1 leaves that much; a sum of tents is at least each of them, and narrowing keeps the order,
 -- so the narrowed sum isn't zero, and a weight is one rounding of a fraction that is at most 1.
 use mathlib.Core.Path.{_≡_, refl, sym, ap, _∙_, subst}
 use mathlib.Core.Logic.{inl, inr}
 use mathlib.Core.Bool.{Bool, true, false, not, cond}
 use Prim.Native.Nat.{ℕ, zero, suc, _+_, _-_, _*_, _^_, _≤_, _<_, zero-le}
-use native.Mathlib.Nat.{le-of-suc-le-suc, not-suc-le-zero, le-suc, add-le-add, add-mul, le-refl, le-trans, le-of-eq, le-of-lt, lt-of-lt-of-le, zero-lt-suc, mul-one, one-mul, zero-mul, mul-comm, mul-pos, mul-le-mul, mul-le-mul-right, pow-suc, eq-or-lt-of-le}
+use native.Mathlib.Nat.{le-of-suc-le-suc, not-suc-le-zero, le-suc, add-le-add, add-mul, le-refl, le-trans, le-of-eq, le-of-lt, lt-of-lt-of-le}
+use native.Mathlib.Nat.{zero-lt-suc, mul-one, one-mul, zero-mul, mul-comm, mul-pos, mul-le-mul, mul-le-mul-right, pow-suc, eq-or-lt-of-le}
 use native.Mathlib.Numerals.{add-one}
 use native.Mathlib.Omega.{arith}
 use lib.IntN.{ℤ, pos, negsuc, _+ℤ_}
@@ -29,7 +31,8 @@ use Rattle.float_laws.specs.Values.{Within, Holds}
 use Rattle.float_laws.specs.Bounds.{holds-whole, holds-scaled, round-within}
 use Rattle.resample_window.specs.declared.Window.{Window}
 use Rattle.resample_window.specs.declared.Weight.the-variants.{Of, Nothing}
-use Rattle.resample_window.specs.Window.{tentOf, weightOf, tentSum, numbers, centerOf, supportOf, unsummed, withSum, empty, Tap, clampOf, tapOf, tapsTo, tapsOf, taps}
+use Rattle.resample_window.specs.Window.{tentOf, weightOf, tentSum, numbers, centerOf, supportOf, unsummed, withSum, empty, Tap, clampOf, tapOf}
+use Rattle.resample_window.specs.Window.{tapsTo, tapsOf, taps}
 use Rattle.resample_window_laws.specs.Support.{one-is, window-numbers-small}
 use Rattle.resample_window.specs.Range.{window-cases}
 use Rattle.resample_window_laws.specs.Reach.{float-one, at-most-sum, isReached, each-append}
@@ -50,7 +53,8 @@ rounded-sized f a c b C H h =
     elim (round-shape f false a c) [ inl e ↦ absurd (subst (λ (z : Float). Within z b 1) e w) | inr v ↦ within-sized f (round f false a c) (grid f a c) b v w ]
 
 -- the larger fraction rounds to the larger value
-keeps : (f : Format) (a c d e x y : ℕ) → 0 < c → 0 < e → a * e ≤ d * c → HasValue (round f false a c) false x (2 ^ low f) → HasValue (round f false d e) false y (2 ^ low f) → x ≤ y
+keeps : (f : Format) (a c d e x y : ℕ) → 0 < c → 0 < e → a * e ≤ d * c → HasValue (round f false a c) false x (2 ^ low f)
+    → HasValue (round f false d e) false y (2 ^ low f) → x ≤ y
 keeps f a c d e x y C E h v w = at-most (round f false a c) (round f false d e) x y (2 ^ low f) (pow-pos (low f)) v w (round-mono f a c d e C E h)
 
 -- 2 ^ -k rounds to itself
@@ -60,7 +64,9 @@ power-least f k a c x K C h v =
     let H : Holds f 1 (2 ^ k) = holds-scaled f 1 k K (pow-pos (prec f)) in
     let m : T (le (round f false 1 (2 ^ k)) (round f false a c)) = round-mono f 1 (2 ^ k) a c (pow-pos k) C (le-trans (le-of-eq (one-mul c)) h) in
     at-most (round f false 1 (2 ^ k)) (round f false a c) U (x * 2 ^ k) (U * 2 ^ k) (mul-pos (pow-pos (low f)) (pow-pos k))
-    (subst (λ (z : ℕ). HasValue (round f false 1 (2 ^ k)) false z (U * 2 ^ k)) (one-mul U) (subst (λ (z : ℕ). HasValue (round f false 1 (2 ^ k)) false (1 * U) z) (mul-comm (2 ^ k) U) (value-scale (round f false 1 (2 ^ k)) false 1 (2 ^ k) U H)))
+    (subst (λ (z : ℕ). HasValue (round f false 1 (2 ^ k)) false z (U * 2 ^ k)) (one-mul U)
+    (subst (λ (z : ℕ). HasValue (round f false 1 (2 ^ k)) false (1 * U) z) (mul-comm (2 ^ k) U)
+    (value-scale (round f false 1 (2 ^ k)) false 1 (2 ^ k) U H)))
     (value-scale (round f false a c) false x U (2 ^ k) v) m
 
 -- ---- a positive tent
@@ -106,7 +112,8 @@ tent-of f nan t p = absurd p
 tent-of f (inf s) t p = absurd p
 tent-of f (fin s m e) t p = fold (sub-at f float-one (fin false m e) false false (down e) (m * up e) (down e) (down-pos e) (one-is (down e)) (refl, refl))
   where
-    go : (b : Bool) → (T b → m * up e < down e) → (T (not b) → down e ≤ m * up e) → T (lt zero+ (sum f false (down e) true (m * up e) (down e))) → Tent f (sum f false (down e) true (m * up e) (down e))
+    go : (b : Bool) → (T b → m * up e < down e) → (T (not b) → down e ≤ m * up e) → T (lt zero+ (sum f false (down e) true (m * up e) (down e)))
+        → Tent f (sum f false (down e) true (m * up e) (down e))
     go true l n q =
         let a = down e - m * up e in
         let x : m * up e < down e = l tt in
@@ -115,11 +122,13 @@ tent-of f (fin s m e) t p = fold (sub-at f float-one (fin false m e) false false
     go false l n q = absurd (subst T (at-most-sum f (down e) (m * up e) (down-pos e) (n tt)) q)
 
     fold : sub f float-one (fin false m e) ≡ sum f false (down e) true (m * up e) (down e) → Tent f (sub f float-one (fin false m e))
-    fold x = subst (λ (z : Float). Tent f z) (sym x) (go (ltb (m * up e) (down e)) (ltb→lt (m * up e) (down e)) (nltb→le (m * up e) (down e)) (subst (λ (z : Float). T (lt zero+ z)) x p))
+    fold x = subst (λ (z : Float). Tent f z) (sym x)
+        (go (ltb (m * up e) (down e)) (ltb→lt (m * up e) (down e)) (nltb→le (m * up e) (down e)) (subst (λ (z : Float). T (lt zero+ z)) x p))
 
 pub tent-size : (w : Window) (j : ℤ) → T (lt zero+ (tentOf w j)) → Tent binary64 (tentOf w j)
 unfolding tentOf
-tent-size w j t = tent-of binary64 (div binary64 (sub binary64 (ofInt binary64 j) (w .center)) (w .support)) (div-fits binary64 (sub binary64 (ofInt binary64 j) (w .center)) (w .support)) t
+tent-size w j t = tent-of binary64 (div binary64 (sub binary64 (ofInt binary64 j) (w .center)) (w .support))
+    (div-fits binary64 (sub binary64 (ofInt binary64 j) (w .center)) (w .support)) t
 
 tent-fits : (w : Window) (j : ℤ) → T (fits binary64 (tentOf w j))
 unfolding tentOf
@@ -137,14 +146,16 @@ both-plus : (f : Format) (a b c : ℕ) → sum f false a false b c ≡ round f f
 unfolding sum
 both-plus f a b c = refl
 
-add-more : (f : Format) (x t : Float) (n G g : ℕ) → T (fits f x) → T (fits f t) → HasValue x false G (2 ^ low f) → HasValue t false g (2 ^ low f) → G ≤ n * 2 ^ low f → g ≤ 1 * 2 ^ low f → Holds f (n + 1) 1 → More f (add f x t) (n + 1) G g
+add-more : (f : Format) (x t : Float) (n G g : ℕ) → T (fits f x) → T (fits f t) → HasValue x false G (2 ^ low f) → HasValue t false g (2 ^ low f)
+    → G ≤ n * 2 ^ low f → g ≤ 1 * 2 ^ low f → Holds f (n + 1) 1 → More f (add f x t) (n + 1) G g
 add-more f x t n G g X Y v w h k H =
     let U = 2 ^ low f in
     let P : 0 < U = pow-pos (low f) in
     let e : add f x t ≡ round f false (G + g) U = add-at f x t false false G g U P v w ∙ both-plus f G g U in
     let s = rounded-sized f (G + g) U (n + 1) P H (le-trans (add-le-add h k) (le-of-eq (sym (add-mul n 1 U)))) in
     let at : (y : Float) (a : ℕ) → T (fits f y) → HasValue y false a U → a ≤ G + g → a ≤ s .size =
-    (λ y a Q p l. keeps f a U (G + g) U a (s .size) P P (mul-le-mul-right U l) (subst (λ (z : Float). HasValue z false a U) (sym (round-to f y false a U P Q p)) p) (s .value)) in
+    (λ y a Q p l. keeps f a U (G + g) U a (s .size) P P (mul-le-mul-right U l)
+    (subst (λ (z : Float). HasValue z false a U) (sym (round-to f y false a U P Q p)) p) (s .value)) in
     subst (λ (z : Float). More f z (n + 1) G g) (sym e) (record { sized = s; old = at x G X v (omega arith); new = at t g Y w (omega arith) })
 
 -- x is the sum of the first n
@@ -165,7 +176,12 @@ zero-sized : (f : Format) → Sized f zero+ 0
 zero-sized f = record { size = 0; value = (refl, zero-mul (2 ^ low f)); greatest = zero-le }
 
 abbrev next-sized : (f : Format) (x : Float) (n : ℕ) → Sized f x n → Sized f x (suc n)
-next-sized f x n s = record { size = s .size; value = s .value; greatest = le-trans (s .greatest) (mul-le-mul-right (2 ^ low f) (let l : n ≤ suc n = omega arith in l)) }
+next-sized f x n s = record {
+  size = s .size;
+  value = s .value;
+  greatest =
+      le-trans (s .greatest) (mul-le-mul-right (2 ^ low f) (let l : n ≤ suc n = omega arith in l));
+}
 
 module _ (w : Window) (n : ℕ) (x : Float) (s : Total w n x) (l : suc n ≤ 2 ^ 31) where
   -- a number with no weight
@@ -195,7 +211,8 @@ module _ (w : Window) (n : ℕ) (x : Float) (s : Total w n x) (l : suc n ≤ 2 ^
         holds = add-fits binary64 x (tentOf w j);
         each = λ k u h.
             elim (eq-or-lt-of-le (le-of-suc-le-suc h)) [
-              | inl q ↦ subst (λ (i : ℕ). (v : T (isReached w i)) → tent-size w (w .first +ℤ pos i) v .size ≤ m .sized .size) (sym q) (λ v. le-trans (le-of-eq (same-size w n v p)) (m .new)) u
+              | inl q ↦ subst (λ (i : ℕ). (v : T (isReached w i)) → tent-size w (w .first +ℤ pos i) v .size ≤ m .sized .size) (sym q)
+                  (λ v. le-trans (le-of-eq (same-size w n v p)) (m .new)) u
               | inr q ↦ le-trans (s .each k u q) (m .old)
             ];
       }
@@ -205,7 +222,8 @@ unfolding tentSum
 total w zero h = record { sized = zero-sized binary64; holds = zero-fits; each = λ k t l. absurd (not-suc-le-zero l) }
 total w (suc n) h = go (isReached w n) refl (total w n (le-trans (le-suc n) h))
   where
-    go : (b : Bool) → isReached w n ≡ b → Total w n (tentSum w n) → Total w (suc n) (cond b (add binary64 (tentSum w n) (tentOf w (w .first +ℤ pos n))) (tentSum w n))
+    go : (b : Bool) → isReached w n ≡ b → Total w n (tentSum w n)
+        → Total w (suc n) (cond b (add binary64 (tentSum w n) (tentOf w (w .first +ℤ pos n))) (tentSum w n))
     go true e s = taken w n (tentSum w n) s h (known e)
     go false e s = passed w n (tentSum w n) s h e
 
@@ -229,14 +247,18 @@ share-of (fin s m e) g l h k = (h .0, k)
 
 rounded-share : (f : Format) (a c : ℕ) → 0 < c → a ≤ c → Share (round f false a c)
 rounded-share f a c C h =
-    let w : Within (round f false a c) 1 1 = round-within f false a c 1 1 C (zero-lt-suc 0) (holds-whole f 1 (pow-pos (prec f))) (le-trans (le-of-eq (mul-one a)) (le-trans h (le-of-eq (sym (one-mul c))))) in
-    elim (round-shape f false a c) [ inl e ↦ absurd (subst (λ (z : Float). Within z 1 1) e w) | inr v ↦ share-of (round f false a c) (grid f a c) (2 ^ low f) v w ]
+    let w : Within (round f false a c) 1 1 =
+    round-within f false a c 1 1 C (zero-lt-suc 0) (holds-whole f 1 (pow-pos (prec f)))
+    (le-trans (le-of-eq (mul-one a)) (le-trans h (le-of-eq (sym (one-mul c))))) in
+    elim (round-shape f false a c)
+    [ inl e ↦ absurd (subst (λ (z : Float). Within z 1 1) e w) | inr v ↦ share-of (round f false a c) (grid f a c) (2 ^ low f) v w ]
 
 not-none : (q k U : ℕ) → 0 < U → U ≤ q * k → 0 < q
 not-none q k U P h = first-pos q k (lt-of-lt-of-le P h)
 
 -- g / U is at least 2 ^ -k and at most 1, and G / U at most b
-quotient : (f : Format) (k b g G U : ℕ) → k ≤ low f → Holds f b 1 → 0 < U → U ≤ g * 2 ^ k → g ≤ U → g ≤ G → G ≤ b * U → Share (div f (round f false g U) (round f false G U))
+quotient : (f : Format) (k b g G U : ℕ) → k ≤ low f → Holds f b 1 → 0 < U → U ≤ g * 2 ^ k → g ≤ U → g ≤ G → G ≤ b * U
+    → Share (div f (round f false g U) (round f false G U))
 quotient f k b g G U K H P l h m n =
     let L = 2 ^ low f in
     let Q : 0 < L = pow-pos (low f) in
@@ -253,33 +275,39 @@ narrow-is : (x : Float) (g c : ℕ) → 0 < c → HasValue x false g c → narro
 unfolding narrow
 narrow-is nan g c C v = absurd v
 narrow-is (inf s) g c C v = absurd v
-narrow-is (fin s m e) g c C v = ap (λ (b : Bool). round binary32 b (m * up e) (down e)) (v .0) ∙ round-same binary32 false (m * up e) (down e) g c (down-pos e) C (v .1)
+narrow-is (fin s m e) g c C v =
+    ap (λ (b : Bool). round binary32 b (m * up e) (down e)) (v .0) ∙ round-same binary32 false (m * up e) (down e) g c (down-pos e) C (v .1)
 
 power-holds : Holds binary32 (2 ^ 31) 1
 unfolding round
 power-holds = (refl, refl)
 
 -- U stands for the units of binary64: 2 ^ 1074 as a variable
-narrowed-share : (t x : Float) (g G n U : ℕ) → 0 < U → HasValue t false g U → HasValue x false G U → U ≤ g * 2 ^ 53 → g ≤ 1 * U → g ≤ G → G ≤ n * U → n ≤ 2 ^ 31 → Share (div binary32 (narrow t) (narrow x))
+narrowed-share : (t x : Float) (g G n U : ℕ) → 0 < U → HasValue t false g U → HasValue x false G U → U ≤ g * 2 ^ 53 → g ≤ 1 * U → g ≤ G → G ≤ n * U
+    → n ≤ 2 ^ 31 → Share (div binary32 (narrow t) (narrow x))
 narrowed-share t x g G n U P v w l h m k N =
     subst (λ (z : Float). Share (div binary32 z (narrow x))) (sym (narrow-is t g U P v))
     (subst (λ (z : Float). Share (div binary32 (round binary32 false g U) z)) (sym (narrow-is x G U P w))
     (quotient binary32 53 (2 ^ 31) g G U (lit≤ tt) power-holds P l (le-trans h (le-of-eq (one-mul U))) m (le-trans k (mul-le-mul-right U N))))
 
-pub weight-share : (w : Window) (n k : ℕ) → n ≤ 2 ^ 31 → k < n → T (isReached w k) → Share (div binary32 (narrow (tentOf w (w .first +ℤ pos k))) (narrow (tentSum w n)))
+pub weight-share : (w : Window) (n k : ℕ) → n ≤ 2 ^ 31 → k < n → T (isReached w k)
+    → Share (div binary32 (narrow (tentOf w (w .first +ℤ pos k))) (narrow (tentSum w n)))
 weight-share w n k N h t =
     let u = tent-size w (w .first +ℤ pos k) t in
     let s = total w n N in
-    narrowed-share (tentOf w (w .first +ℤ pos k)) (tentSum w n) (u .size) (s .sized .size) n (2 ^ low binary64) (pow-pos (low binary64)) (u .value) (s .sized .value) (u .least) (u .greatest) (s .each k t h) (s .sized .greatest) N
+    narrowed-share (tentOf w (w .first +ℤ pos k)) (tentSum w n) (u .size) (s .sized .size) n (2 ^ low binary64) (pow-pos (low binary64)) (u .value)
+    (s .sized .value) (u .least) (u .greatest) (s .each k t h) (s .sized .greatest) N
 
 -- ---- of every tap
 
-tap-share : (b : Bool) (q : Float) (k : ℕ) (z : Tap) → (T b → Share q) → (m : ℕ) → m < length (tapOf (cond b (Of q) Nothing) k) → Share (getD (tapOf (cond b (Of q) Nothing) k) m z .weight)
+tap-share : (b : Bool) (q : Float) (k : ℕ) (z : Tap) → (T b → Share q) → (m : ℕ) → m < length (tapOf (cond b (Of q) Nothing) k)
+    → Share (getD (tapOf (cond b (Of q) Nothing) k) m z .weight)
 tap-share true q k z h zero l = h tt
 tap-share true q k z h (suc m) l = absurd (let x : suc m < 1 = l in omega arith)
 tap-share false q k z h m l = absurd (let x : m < 0 = l in omega arith)
 
-tapsTo-share : (w : Window) (src N : ℕ) (z : Tap) → ((k : ℕ) → k < N → T (isReached w k) → Share (div binary32 (narrow (tentOf w (w .first +ℤ pos k))) (narrow (w .sum))))
+tapsTo-share : (w : Window) (src N : ℕ) (z : Tap)
+    → ((k : ℕ) → k < N → T (isReached w k) → Share (div binary32 (narrow (tentOf w (w .first +ℤ pos k))) (narrow (w .sum))))
     → (n : ℕ) → n ≤ N → (m : ℕ) → m < length (tapsTo w src n) → Share (getD (tapsTo w src n) m z .weight)
 unfolding tapsTo weightOf
 tapsTo-share w src N z h zero l m x = absurd (let y : m < 0 = x in omega arith)
@@ -288,7 +316,8 @@ tapsTo-share w src N z h (suc n) l m x =
     each-append (λ (t : Tap). Share (t .weight)) (tapsTo w src n) (tapOf (weightOf w j) (clampOf src j)) z (tapsTo-share w src N z h n (le-of-lt l))
     (tap-share (isReached w n) (div binary32 (narrow (tentOf w j)) (narrow (w .sum))) (clampOf src j) z (h n l)) m x
 
-summed-share : (c s : Float) (k : ℕ) → numbers (unsummed c s .first) (unsummed c s .last) ≤ 2 ^ 31 → k < numbers (unsummed c s .first) (unsummed c s .last) → T (isReached (withSum (unsummed c s)) k)
+summed-share : (c s : Float) (k : ℕ) → numbers (unsummed c s .first) (unsummed c s .last) ≤ 2 ^ 31 → k < numbers (unsummed c s .first) (unsummed c s .last)
+    → T (isReached (withSum (unsummed c s)) k)
     → Share (div binary32 (narrow (tentOf (withSum (unsummed c s)) (withSum (unsummed c s) .first +ℤ pos k))) (narrow (withSum (unsummed c s) .sum)))
 unfolding tentOf
 summed-share c s k N h t = weight-share (unsummed c s) (numbers (unsummed c s .first) (unsummed c s .last)) k N h t
@@ -300,11 +329,13 @@ no-share src z m l = absurd (let x : m < 0 = l in omega arith)
 pub taps-share : (src dst i : ℕ) (z : Tap) (n : ℕ) → n < length (taps src dst i) → Share (getD (taps src dst i) n z .weight)
 unfolding taps
 taps-share src dst i z =
-    window-cases (λ (w : Window). numbers (w .first) (w .last) ≤ 2 ^ 31 → (n : ℕ) → n < length (tapsOf w src) → Share (getD (tapsOf w src) n z .weight)) src dst i
+    window-cases (λ (w : Window). numbers (w .first) (w .last) ≤ 2 ^ 31 → (n : ℕ) → n < length (tapsOf w src)
+    → Share (getD (tapsOf w src) n z .weight)) src dst i
     (λ N. no-share src z)
     (λ A B C D I N.
     let w = withSum (unsummed (centerOf src dst i) (supportOf src dst)) in
-    tapsTo-share w src (numbers (w .first) (w .last)) z (λ k l t. summed-share (centerOf src dst i) (supportOf src dst) k N l t) (numbers (w .first) (w .last)) (le-refl (numbers (w .first) (w .last))))
+    tapsTo-share w src (numbers (w .first) (w .last)) z (λ k l t. summed-share (centerOf src dst i) (supportOf src dst) k N l t)
+    (numbers (w .first) (w .last)) (le-refl (numbers (w .first) (w .last))))
     (window-numbers-small src dst i)
 
 pub weights-within : (src dst i : ℕ) (z : Tap) (n : ℕ) → n < length (taps src dst i) → Within (getD (taps src dst i) n z .weight) 1 1

@@ -38,7 +38,8 @@ module _ (text : List ℕ) (lock : Lock) (p : Picture) (samples : List ℕ) (wor
   written-done e = (if-done _ _ _ e, if-done _ _ _ e)
 
   -- a refused write leaves the samples and the work area as they were
-  pub written-refused : (r : Refusal) → writtenOf text lock p samples work .answer ≡ Refused r → (writtenOf text lock p samples work .samples ≡ samples) × (writtenOf text lock p samples work .work ≡ work)
+  pub written-refused : (r : Refusal) → writtenOf text lock p samples work .answer ≡ Refused r
+      → (writtenOf text lock p samples work .samples ≡ samples) × (writtenOf text lock p samples work .work ≡ work)
   unfolding writtenOf
   written-refused r e = (if-refused _ _ _ r e, if-refused _ _ _ r e)
 

@@ -22,7 +22,8 @@ use Rattle.resilient.specs.Resilient.{writeAnswer}
 
 -- the answer to writing a text into a picture with all its samples and the work area that it needs
 abbrev pub writing : List ℕ → Lock → ℕ → ℕ → Answer
-writing text lock width height = writeAnswer text lock (record { width = width; height = height; channels = 3 }) (width * height * 3) (131072 + 2 * (width * height))
+writing text lock width height =
+    writeAnswer text lock (record { width = width; height = height; channels = 3 }) (width * height * 3) (131072 + 2 * (width * height))
 
 -- the 14 coded bits of a bit that is set: 11 10 11 11 00 01 11
 abbrev pub oneBit : List ℕ

@@ -13,7 +13,9 @@ use Rattle.admission.specs.Admitted.{Admitted}
 module _ (parts : ℕ) (p : Picture) (samples : List ℕ) (work : ℕ) (a : Admitted parts p (length samples) work) where
   pub admitted-sized : 0 < p .width → 0 < p .height → Sized (p .width) (p .height) (p .channels) samples
   admitted-sized w h =
-      let turned : p .width * p .channels * p .height ≡ p .width * p .height * p .channels = mul-assoc (p .width) (p .channels) (p .height) ∙ (ap (λ (n : ℕ). p .width * n) (mul-comm (p .channels) (p .height)) ∙ sym (mul-assoc (p .width) (p .height) (p .channels))) in
+      let turned : p .width * p .channels * p .height ≡ p .width * p .height * p .channels =
+      mul-assoc (p .width) (p .channels) (p .height)
+      ∙ (ap (λ (n : ℕ). p .width * n) (mul-comm (p .channels) (p .height)) ∙ sym (mul-assoc (p .width) (p .height) (p .channels))) in
       record {
         wide = w;
         width-most = a .width-most;

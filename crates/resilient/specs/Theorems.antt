@@ -6,7 +6,7 @@
 use mathlib.Core.Path.{_≡_, refl, sym, ap, _∙_, subst}
 use mathlib.Core.Bool.{true}
 use mathlib.Core.List.{List}
-use Prim.Native.Nat.{ℕ, _+_, _*_, _<_}
+use Prim.Native.Nat.{ℕ, _<_}
 use native.Mathlib.Omega.{arith}
 use lib.ListN.{length, getD}
 use lib.Ieee.{Float, nan}
@@ -46,18 +46,22 @@ alpha-kept text lock p samples work four y x Y X = go (writeAnswer text lock p (
     go : (a : Answer) → writeAnswer text lock p (length samples) (length work) ≡ a → at (writtenOf text lock p samples work .samples) ≡ at samples
     go Done e =
         let may = write-admitted p (length samples) (length work) (first-done _ _ e .1) in
-        let s : Sized (p .width) (p .height) 4 samples = subst (λ (c : ℕ). Sized (p .width) (p .height) c samples) four (admitted-sized 2 p samples (length work) (may .2) (omega (arith, may .0)) (omega (arith, may .1))) in
+        let s : Sized (p .width) (p .height) 4 samples =
+        subst (λ (c : ℕ). Sized (p .width) (p .height) c samples) four
+        (admitted-sized 2 p samples (length work) (may .2) (omega (arith, may .0)) (omega (arith, may .1))) in
         ap at (written-done text lock p samples work e .0) ∙ (rw four (fourth-kept (p .width) (p .height) _ samples s y x Y X))
     go (Refused r) e = ap at (written-refused text lock p samples work r e .0)
 
 -- ---- reading
 
-module _ (key : Key) (p : Picture) (samples : List ℕ) (work : List Float) (bytes : Bytes samples) (done : readAdmission p (length samples) (length work) ≡ Done) where
+module _ (key : Key) (p : Picture) (samples : List ℕ) (work : List Float) (bytes : Bytes samples)
+    (done : readAdmission p (length samples) (length work) ≡ Done) where
   pub votes-in-unit : (b : ℕ) → b < blockCount → inUnit (getD (pictureVotes p samples) b nan) ≡ true
   unfolding pictureVotes
   votes-in-unit =
       let may = read-admitted p (length samples) (length work) done in
-      votes-good (planeOf (p .width) (p .height) (p .channels) samples) (plane-within (p .width) (p .height) (p .channels) samples (may .0) (may .2 .width-most) (may .1) (may .2 .height-most) bytes)
+      votes-good (planeOf (p .width) (p .height) (p .channels) samples)
+      (plane-within (p .width) (p .height) (p .channels) samples (may .0) (may .2 .width-most) (may .1) (may .2 .height-most) bytes)
 
   pub read-by-votes : readingOf key p samples work .reading ≡ votesReading (pictureVotes p samples) key
   unfolding votesReading pictureVotes

@@ -29,7 +29,8 @@ module _ {A : Type 0} where
 
   module _ (w : ℕ) (l : ℕ → List A) where
     -- a list that starts with n lines, and a turn of a loop that pastes one more
-    pub lines-more : (n : ℕ) (d : List A) → n * w + w ≤ length d → length (l n) ≡ w → take (n * w) d ≡ lines l n → take ((n + 1) * w) (paste d (n * w) (l n) w) ≡ lines l (n + 1)
+    pub lines-more : (n : ℕ) (d : List A) → n * w + w ≤ length d → length (l n) ≡ w → take (n * w) d ≡ lines l n
+        → take ((n + 1) * w) (paste d (n * w) (l n) w) ≡ lines l (n + 1)
     unfolding lines
     lines-more n d h k e =
         rw (add-one, suc-mul)
@@ -64,7 +65,8 @@ module _ {A : Type 0} where
     pub paste-at : (c : ℕ) (z : A) → c < n → getD (paste d at s n) (at + c) z ≡ getD s c z
     paste-at c z h =
         let e : length (take at d) ≡ at = length-take-le at d (omega arith) in
-        head (at + c) z (omega arith) ∙ (ap (λ (k : ℕ). getD (take at d ++ take n s) (k + c) z) (sym e) ∙ (getD-append-add (take at d) (take n s) c z ∙ getD-take n s c z h))
+        head (at + c) z (omega arith)
+        ∙ (ap (λ (k : ℕ). getD (take at d ++ take n s) (k + c) z) (sym e) ∙ (getD-append-add (take at d) (take n s) c z ∙ getD-take n s c z h))
 
     pub paste-other : (q : ℕ) (z : A) → (q < at) ⊎ (at + n ≤ q) → getD (paste d at s n) q z ≡ getD d q z
     paste-other q z (inl h) =
@@ -72,7 +74,8 @@ module _ {A : Type 0} where
         head q z (omega arith) ∙ (List·getD-append (take at d) (take n s) z q k ∙ getD-take at d q z h)
     paste-other q z (inr h) =
         let e : at + n + (q - (at + n)) ≡ q = omega arith in
-        rw (← e) (sym (getD-drop (at + n) (paste d at s n) (q - (at + n)) z) ∙ (ap (λ (xs : List A). getD xs (q - (at + n)) z) (drop-paste d at s n (omega arith) long) ∙ getD-drop (at + n) d (q - (at + n)) z))
+        rw (← e) (sym (getD-drop (at + n) (paste d at s n) (q - (at + n)) z)
+        ∙ (ap (λ (xs : List A). getD xs (q - (at + n)) z) (drop-paste d at s n (omega arith) long) ∙ getD-drop (at + n) d (q - (at + n)) z))
 
   pub pasted-none : (w : ℕ) (at : ℕ → ℕ) (l : ℕ → List A) (d : List A) → d ≡ pasted w at l 0 d
   unfolding pasted
@@ -91,7 +94,8 @@ module _ {A : Type 0} where
         length-paste (pasted w at l n d) (at n) (l n) w (omega (arith, room n (omega arith))) (omega (arith, wide n)) ∙ e
 
     -- a place outside the lines holds what it held
-    pub pasted-other : (n : ℕ) → ((r : ℕ) → r < n → at r + w ≤ length d) → (q : ℕ) (z : A) → ((r : ℕ) → r < n → (q < at r) ⊎ (at r + w ≤ q)) → getD (pasted w at l n d) q z ≡ getD d q z
+    pub pasted-other : (n : ℕ) → ((r : ℕ) → r < n → at r + w ≤ length d) → (q : ℕ) (z : A) → ((r : ℕ) → r < n → (q < at r) ⊎ (at r + w ≤ q))
+        → getD (pasted w at l n d) q z ≡ getD d q z
     unfolding pasted
     pasted-other zero room q z out = refl
     pasted-other (suc n) room q z out =
@@ -100,7 +104,8 @@ module _ {A : Type 0} where
         ∙ pasted-other n (λ r k. room r (omega arith)) q z (λ r k. out r (omega arith))
 
     -- a place in a line, where the lines come one behind the other, holds the line's value
-    pub pasted-at : (n : ℕ) → ((r : ℕ) → r < n → at r + w ≤ length d) → ((r s : ℕ) → r < s → s < n → at r + w ≤ at s) → (r c : ℕ) (z : A) → r < n → c < w → getD (pasted w at l n d) (at r + c) z ≡ getD (l r) c z
+    pub pasted-at : (n : ℕ) → ((r : ℕ) → r < n → at r + w ≤ length d) → ((r s : ℕ) → r < s → s < n → at r + w ≤ at s) → (r c : ℕ) (z : A) → r < n → c < w
+        → getD (pasted w at l n d) (at r + c) z ≡ getD (l r) c z
     unfolding pasted
     pasted-at zero room apart r c z h g = absurd (omega arith)
     pasted-at (suc n) room apart r c z h g =

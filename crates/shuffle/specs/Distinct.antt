@@ -14,7 +14,7 @@ use Rattle.seq.specs.Tab.{length-tab, getD-tab}
 use Rattle.seq.specs.Lists.{tab}
 use Rattle.shuffle.specs.declared.Drawn.{Drawn}
 use Rattle.shuffle.specs.declared.Drawn.the-variants.{Found, End}
-use Rattle.shuffle.specs.Shuffle.{drawn, drawsFrom, exchanged, made, streamOf, shuffled, longest, shuffleOf, PartOf}
+use Rattle.shuffle.specs.Shuffle.{drawn, drawsFrom, swapped, made, streamOf, shuffled, longestShuffle, shuffleOf, PartOf}
 use Rattle.shuffle.specs.Draws.{drawn-below}
 use Rattle.shuffle.specs.Entries.{made-more, made-end}
 
@@ -62,12 +62,12 @@ module _ (i j : ℕ) where
       go false false = hk
 
   module _ (l : List ℕ) (hi : i < length l) (hj : j < length l) where
-    length-exchanged : length (exchanged i j l) ≡ length l
-    unfolding exchanged
+    length-exchanged : length (swapped i j l) ≡ length l
+    unfolding swapped
     length-exchanged = simp length-set refl
 
-    getD-exchanged : (k : ℕ) → getD (exchanged i j l) k 0 ≡ getD l (before k) 0
-    unfolding exchanged Cases
+    getD-exchanged : (k : ℕ) → getD (swapped i j l) k 0 ≡ getD l (before k) 0
+    unfolding swapped Cases
     getD-exchanged k = go (cases k)
       where
         go : Cases k → getD (set (set l i (getD l j 0)) j (getD l i 0)) k 0 ≡ getD l (before k) 0
@@ -75,12 +75,13 @@ module _ (i j : ℕ) where
         go (inr (inl x)) = getD-set-other (set l i (getD l j 0)) j k (getD l i 0) 0 (x .0) ∙ rw (x .2, x .1) (getD-set-same l i (getD l j 0) 0 hi)
         go (inr (inr x)) = getD-set-other (set l i (getD l j 0)) j k (getD l i 0) 0 (x .0) ∙ rw (x .2) (getD-set-other l i k (getD l j 0) 0 (x .1))
 
-    exchanged-part : (m : ℕ) → PartOf m l → PartOf m (exchanged i j l)
+    exchanged-part : (m : ℕ) → PartOf m l → PartOf m (swapped i j l)
     exchanged-part m part = record {
       below = λ k h. rw (getD-exchanged k) (part .below (before k) (before-below (length l) k hi hj (rw length-exchanged at h)));
       once = λ a b ha hb e.
           before-once a b
-          (part .once (before a) (before b) (before-below (length l) a hi hj (rw length-exchanged at ha)) (before-below (length l) b hi hj (rw length-exchanged at hb))
+          (part .once (before a) (before b) (before-below (length l) a hi hj (rw length-exchanged at ha))
+          (before-below (length l) b hi hj (rw length-exchanged at hb))
           (sym (getD-exchanged a) ∙ (e ∙ getD-exchanged b)));
     }
 
@@ -107,13 +108,14 @@ unfolding made
 made-part stream m zero i p l h part = take-part m i l part
 made-part stream m (suc n) i p l h part = go (drawn stream (length l - i) (drawsFrom p) p) refl (λ q k. made-part stream m n (i + 1) q k)
   where
-    go : (d : Drawn) → drawn stream (length l - i) (drawsFrom p) p ≡ d → ((q : ℕ) (k : List ℕ) → n + (i + 1) ≤ length k → PartOf m k → PartOf m (made stream n (i + 1) q k)) → PartOf m (made stream (suc n) i p l)
+    go : (d : Drawn) → drawn stream (length l - i) (drawsFrom p) p ≡ d
+        → ((q : ℕ) (k : List ℕ) → n + (i + 1) ≤ length k → PartOf m k → PartOf m (made stream n (i + 1) q k)) → PartOf m (made stream (suc n) i p l)
     go End e again = rw (made-end stream n i p l (suc n) refl e) (take-part m i l part)
     go (Found r q) e again =
         let hi : i < length l = omega arith in
         let hj : i + r < length l = omega (arith, drawn-below stream (length l - i) (drawsFrom p) p r q (omega arith) e) in
         rw (made-more stream n i p l (suc n) r q refl e)
-        (again q (exchanged i (i + r) l) (omega (arith, length-exchanged i (i + r) l hi hj)) (exchanged-part i (i + r) l hi hj m part))
+        (again q (swapped i (i + r) l) (omega (arith, length-exchanged i (i + r) l hi hj)) (exchanged-part i (i + r) l hi hj m part))
 
 pub shuffled-part : (key : List ℕ) (len n : ℕ) → n ≤ len → PartOf len (shuffled key len n)
 unfolding shuffled
@@ -121,7 +123,7 @@ shuffled-part key len n h = made-part (streamOf key) len n 0 0 (tab (λ k. k) le
 
 pub shuffle-part : (key : List ℕ) (len count room : ℕ) → PartOf len (shuffleOf key len count room)
 unfolding shuffleOf
-shuffle-part key len count room = go (leb len longest)
+shuffle-part key len count room = go (leb len longestShuffle)
   where
     go : (t : Bool) → PartOf len (cond t (shuffled key len (min (min count len) room)) [])
     go true = shuffled-part key len (min (min count len) room) (omega arith)

@@ -63,10 +63,12 @@ module _ (stream : ℕ → ℕ) (range p : ℕ) where
     draws-again t = next ∙ ap turn t
 
 -- eight zeros with the keystream put onto them are the number drawn
-pub value-drawn : (key : List ℕ) (p : ℕ) → 8 ≤ leftAt p → valueAt (λ k. getD (bytesAfter key (replicate 12 0) p (replicate 8 0)) k 0) 0 ≡ valueAt (streamOf key) p
+pub value-drawn : (key : List ℕ) (p : ℕ) → 8 ≤ leftAt p
+    → valueAt (λ k. getD (bytesAfter key (replicate 12 0) p (replicate 8 0)) k 0) 0 ≡ valueAt (streamOf key) p
 unfolding valueAt tab
 value-drawn key p h =
-    let e : bytesAfter key (replicate 12 0) p (replicate 8 0) ≡ tab (λ k. streamOf key (p + k)) 8 = after-next key (replicate 12 0) p (replicate 8 0) h ∙ encrypted-zeros key (replicate 12 0) p 8 in
+    let e : bytesAfter key (replicate 12 0) p (replicate 8 0) ≡ tab (λ k. streamOf key (p + k)) 8 =
+    after-next key (replicate 12 0) p (replicate 8 0) h ∙ encrypted-zeros key (replicate 12 0) p 8 in
     rw (e, add-zero p) refl
 
 -- a number found lies below the range

@@ -11,7 +11,7 @@ use Rattle.seq.specs.Bytes.{word, littleEndian}
 use Rattle.layout.specs.Layout.{layout}
 use Rattle.picture.specs.Sizes.{blockCount}
 use Rattle.shuffle.specs.declared.Drawn.the-variants.{Found, End}
-use Rattle.shuffle.specs.Shuffle.{valueAt, limit, drawn, exchanged, made, shuffled, layoutKey}
+use Rattle.shuffle.specs.Shuffle.{valueAt, limit, drawn, swapped, made, shuffled, layoutKey}
 
 -- a range of 1 and the powers of two take every number
 limit-whole : (limit 1 ≡ 2 ^ 64) × (limit 2 ≡ 2 ^ 64) × (limit 1024 ≡ 2 ^ 64) × (limit 4096 ≡ 2 ^ 64)
@@ -47,10 +47,11 @@ drawn-again = (refl, refl, refl)
 
 -- entry 0 is exchanged with entry 258 mod 4; a list that is not shuffled further keeps its order from there
 exchanged-once : made highest 2 0 8 (7 ∷ 8 ∷ 9 ∷ 6 ∷ []) ≡ 9 ∷ 8 ∷ []
-unfolding valueAt limit drawn exchanged made highest
+unfolding valueAt limit drawn swapped made highest
 exchanged-once = refl
 
 -- the layout begins as the shuffle of 1,024 with its key does; that it is that shuffle to its end is run
 layout-begins : shuffled layoutKey blockCount 2 ≡ take 2 layout
-unfolding layout layoutKey shuffled made drawn valueAt limit exchanged tab keystream chachaBlock blockFrom serialized littleEndian sums rounds innerBlock quarterRound quarter initial word
+unfolding layout layoutKey shuffled made drawn valueAt limit swapped tab keystream chachaBlock blockFrom serialized littleEndian sums rounds innerBlock
+    quarterRound quarter initial word
 layout-begins = refl

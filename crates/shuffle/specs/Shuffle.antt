@@ -39,8 +39,8 @@ abbrev pub drawsFrom : ℕ → ℕ
 drawsFrom p = leftAt p / 8
 
 -- the entries i and j of a list exchanged
-unfoldable pub exchanged : ℕ → ℕ → List ℕ → List ℕ
-exchanged i j l = set (set l i (getD l j 0)) j (getD l i 0)
+unfoldable pub swapped : ℕ → ℕ → List ℕ → List ℕ
+swapped i j l = set (set l i (getD l j 0)) j (getD l i 0)
 
 -- what follows a draw, where the stream ended and where a number was found
 abbrev pub onward : {A : Type 0} → Drawn → A → (ℕ → ℕ → A) → A
@@ -50,7 +50,7 @@ onward End ended found = ended
 -- n entries more of the list l, of which i are made, drawn from place p on; those made where the stream ends
 unfoldable pub made : (ℕ → ℕ) → ℕ → ℕ → ℕ → List ℕ → List ℕ
 made stream zero i p l = take i l
-made stream (suc n) i p l = onward (drawn stream (length l - i) (drawsFrom p) p) (take i l) (λ r q. made stream n (i + 1) q (exchanged i (i + r) l))
+made stream (suc n) i p l = onward (drawn stream (length l - i) (drawsFrom p) p) (take i l) (λ r q. made stream n (i + 1) q (swapped i (i + r) l))
 
 -- the keystream of a key, with a nonce of zeros
 abbrev pub streamOf : List ℕ → ℕ → ℕ
@@ -61,11 +61,11 @@ unfoldable pub shuffled : List ℕ → ℕ → ℕ → List ℕ
 shuffled key len n = made (streamOf key) n 0 0 (tab (λ k. k) len)
 
 -- what is given: count cut to len and to the room, and nothing of a list that is longer than 4,096
-abbrev pub longest : ℕ
-longest = 4096
+abbrev pub longestShuffle : ℕ
+longestShuffle = 4096
 
 unfoldable pub shuffleOf : List ℕ → ℕ → ℕ → ℕ → List ℕ
-shuffleOf key len count room = cond (leb len longest) (shuffled key len (min (min count len) room)) []
+shuffleOf key len count room = cond (leb len longestShuffle) (shuffled key len (min (min count len) room)) []
 
 -- the places lent: the entries, and 0 in the places beyond the last
 unfoldable pub lentFor : ℕ → List ℕ → List ℕ

@@ -8,7 +8,7 @@ ghost use mathlib.Core.Bool.{cond};
 ghost use lib.Dec.{leb, ltb};
 ghost use lib.ListN.{length, take, getD};
 ghost use Rattle.seq.specs.Lists.{tab};
-ghost use Rattle.shuffle.specs.Shuffle.{valueAt, limit, drawn, drawsFrom, exchanged, made, streamOf, longest, shuffleOf, lentFor};
+ghost use Rattle.shuffle.specs.Shuffle.{valueAt, limit, drawn, drawsFrom, swapped, made, streamOf, longestShuffle, shuffleOf, lentFor};
 
 // The longest list that is shuffled: it is held on the stack.
 const LONGEST: usize = 4096;
@@ -23,7 +23,8 @@ enum Drawn {
 // Answers their number, and the places beyond it hold 0. A `len` above 4,096 gives no entries.
 pub fn shuffle(key: &[u8; 32], len: usize, count: usize, entries: &mut [u16]) -> usize
     ensures number { λ r. ⌜ r ≡ length (shuffleOf (now (key .entry)) len count (length (now (entries .entry)))) ⌝ }
-    ensures lent { λ _. ⌜ now (entries .exit) ≡ lentFor (length (now (entries .entry))) (shuffleOf (now (key .entry)) len count (length (now (entries .entry)))) ⌝ }
+    ensures lent { λ _. ⌜ now (entries .exit)
+        ≡ lentFor (length (now (entries .entry))) (shuffleOf (now (key .entry)) len count (length (now (entries .entry)))) ⌝ }
 {
     let held = held(len);
     let wanted = least(least(count, held), entries.len());
@@ -35,7 +36,7 @@ pub fn shuffle(key: &[u8; 32], len: usize, count: usize, entries: &mut [u16]) ->
 
 // A list too long is taken as an empty one, which has no entries.
 fn held(len: usize) -> usize
-    ensures { λ r. ⌜ (r ≡ cond (leb len longest) len 0) × (r ≤ longest) ⌝ }
+    ensures { λ r. ⌜ (r ≡ cond (leb len longestShuffle) len 0) × (r ≤ longestShuffle) ⌝ }
 {
     if len <= LONGEST { len } else { 0 }
 }
@@ -47,11 +48,11 @@ fn least(a: usize, b: usize) -> usize
 }
 
 // The list 0, 1, 2 and so on.
-fn rising() -> [u16; 4096]
-    ensures { λ r. ⌜ r ≡ tab (λ k. k) 4096 ⌝ }
+fn rising() -> [u16; LONGEST]
+    ensures { λ r. ⌜ r ≡ tab (λ k. k) longestShuffle ⌝ }
 {
-    let mut list = [0u16; 4096];
-    for k in 0..4096usize {
+    let mut list = [0u16; LONGEST];
+    for k in 0..LONGEST {
         list[k] = k as u16;
     }
     list
@@ -60,7 +61,8 @@ fn rising() -> [u16; 4096]
 // Makes the first `count` entries in place, and answers how many were made before the keystream ended.
 fn permute(key: &[u8; 32], count: usize, list: &mut [u16]) -> usize
     requires { ⌜ count ≤ length (now list) ⌝ }
-    ensures { λ r. ⌜ (r ≤ count) × (length (now (list .exit)) ≡ length (now (list .entry))) × (take r (now (list .exit)) ≡ made (streamOf (now (key .entry))) count 0 0 (now (list .entry))) ⌝ }
+    ensures { λ r. ⌜ (r ≤ count) × (length (now (list .exit)) ≡ length (now (list .entry)))
+        × (take r (now (list .exit)) ≡ made (streamOf (now (key .entry))) count 0 0 (now (list .entry))) ⌝ }
 {
     let mut at: Position = 0;
     let mut i: usize = 0;
@@ -85,7 +87,7 @@ fn place_of(i: usize, r: u64) -> usize
 
 fn exchange(list: &mut [u16], i: usize, j: usize)
     requires { ⌜ (i < length (now list)) × (j < length (now list)) ⌝ }
-    ensures { λ _. ⌜ now (list .exit) ≡ exchanged i j (now (list .entry)) ⌝ }
+    ensures { λ _. ⌜ now (list .exit) ≡ swapped i j (now (list .entry)) ⌝ }
 {
     let kept = list[i];
     list[i] = list[j];

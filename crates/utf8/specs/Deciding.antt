@@ -61,7 +61,8 @@ unfolding following
 following-some [] b (next {b = e} h done) = absurd (omega (arith, lies-from never e h))
 following-some (f ∷ fs) b {c} d = pick (inRange (f .lead) b) refl d (following-some fs b)
   where
-    pick : (t : Bool) → inRange (f .lead) b ≡ t → Fits (cond t (f .rest) (following fs b)) c → (Fits (following fs b) c → Some fs (b ∷ c)) → Some (f ∷ fs) (b ∷ c)
+    pick : (t : Bool) → inRange (f .lead) b ≡ t → Fits (cond t (f .rest) (following fs b)) c → (Fits (following fs b) c → Some fs (b ∷ c))
+        → Some (f ∷ fs) (b ∷ c)
     pick true e d rest = here (next e d)
     pick false e d rest = there (rest d)
 
@@ -78,7 +79,8 @@ unfolding accepts flatten
 complete none = refl
 complete {fs} (more {xs} (char d) e) = accepts-due fs d (flatten xs) ∙ complete e
 
-sound : (fs : List Form) (due : List Range) (bs : List ℕ) → accepts fs due bs ≡ true → (c : List ℕ) × (cs : List (List ℕ)) × Fits due c × Each (Char fs) cs × (c ++ flatten cs ≡ bs)
+sound : (fs : List Form) (due : List Range) (bs : List ℕ) → accepts fs due bs ≡ true
+    → (c : List ℕ) × (cs : List (List ℕ)) × Fits due c × Each (Char fs) cs × (c ++ flatten cs ≡ bs)
 unfolding accepts flatten
 sound fs [] [] e = ([], [], done, none, refl)
 sound fs (r ∷ due) [] e = absurd (false≢true e)

@@ -77,7 +77,8 @@ bytes-three : (a b c : ℕ) → let v = valueOf (a ∷ b ∷ c ∷ []) in (0xE0 
 bytes-three a b c h = let hb = h .1 in let hc = h .2 in encodes (three (h .3) (h .4)) ∙ simp (above-of, tail-of) (ap (λ (x : ℕ). x ∷ b ∷ c ∷ []) (omega arith))
 
 bytes-four : (a b c d : ℕ) → let v = valueOf (a ∷ b ∷ c ∷ d ∷ []) in (0xF0 ≤ a) × Tail b × Tail c × Tail d × (0xFFFF < v) → encodedScalar v ≡ a ∷ b ∷ c ∷ d ∷ []
-bytes-four a b c d h = let hb = h .1 in let hc = h .2 in let hd = h .3 in encodes (four (h .4)) ∙ simp (above-of, tail-of) (ap (λ (x : ℕ). x ∷ b ∷ c ∷ d ∷ []) (omega arith))
+bytes-four a b c d h = let hb = h .1 in let hc = h .2 in let hd = h .3 in
+    encodes (four (h .4)) ∙ simp (above-of, tail-of) (ap (λ (x : ℕ). x ∷ b ∷ c ∷ d ∷ []) (omega arith))
 
 -- c is the encoding of a scalar value, that of its free bits
 abbrev Encoded : List ℕ → Type 0
@@ -87,14 +88,19 @@ encoded-3 : {c : List ℕ} → Of UTF8-3 c → Encoded c
 unfolding _⊕_
 encoded-3 (first (joined (byte {b = a} l₁ h₁) (joined (byte {b} l₂ h₂) (byte {b = c} l₃ h₃)))) = (low (omega arith), bytes-three a b c (omega arith))
 encoded-3 (second (first (joined (byte {b = a} l₁ h₁) (joined (byte {b} l₂ h₂) (byte {b = c} l₃ h₃))))) = (low (omega arith), bytes-three a b c (omega arith))
-encoded-3 (second (second (first (joined (byte {b = a} l₁ h₁) (joined (byte {b} l₂ h₂) (byte {b = c} l₃ h₃)))))) = (low (omega arith), bytes-three a b c (omega arith))
-encoded-3 (second (second (second (joined (byte {b = a} l₁ h₁) (joined (byte {b} l₂ h₂) (byte {b = c} l₃ h₃)))))) = (high (omega arith) (omega arith), bytes-three a b c (omega arith))
+encoded-3 (second (second (first (joined (byte {b = a} l₁ h₁) (joined (byte {b} l₂ h₂) (byte {b = c} l₃ h₃)))))) =
+    (low (omega arith), bytes-three a b c (omega arith))
+encoded-3 (second (second (second (joined (byte {b = a} l₁ h₁) (joined (byte {b} l₂ h₂) (byte {b = c} l₃ h₃)))))) =
+    (high (omega arith) (omega arith), bytes-three a b c (omega arith))
 
 encoded-4 : {c : List ℕ} → Of UTF8-4 c → Encoded c
 unfolding _⊕_
-encoded-4 (first (joined (byte {b = a} l₁ h₁) (joined (byte {b} l₂ h₂) (joined (byte {b = c} l₃ h₃) (byte {b = d} l₄ h₄))))) = (high (omega arith) (omega arith), bytes-four a b c d (omega arith))
-encoded-4 (second (first (joined (byte {b = a} l₁ h₁) (joined (byte {b} l₂ h₂) (joined (byte {b = c} l₃ h₃) (byte {b = d} l₄ h₄)))))) = (high (omega arith) (omega arith), bytes-four a b c d (omega arith))
-encoded-4 (second (second (joined (byte {b = a} l₁ h₁) (joined (byte {b} l₂ h₂) (joined (byte {b = c} l₃ h₃) (byte {b = d} l₄ h₄)))))) = (high (omega arith) (omega arith), bytes-four a b c d (omega arith))
+encoded-4 (first (joined (byte {b = a} l₁ h₁) (joined (byte {b} l₂ h₂) (joined (byte {b = c} l₃ h₃) (byte {b = d} l₄ h₄))))) =
+    (high (omega arith) (omega arith), bytes-four a b c d (omega arith))
+encoded-4 (second (first (joined (byte {b = a} l₁ h₁) (joined (byte {b} l₂ h₂) (joined (byte {b = c} l₃ h₃) (byte {b = d} l₄ h₄)))))) =
+    (high (omega arith) (omega arith), bytes-four a b c d (omega arith))
+encoded-4 (second (second (joined (byte {b = a} l₁ h₁) (joined (byte {b} l₂ h₂) (joined (byte {b = c} l₃ h₃) (byte {b = d} l₄ h₄)))))) =
+    (high (omega arith) (omega arith), bytes-four a b c d (omega arith))
 
 encoded : {c : List ℕ} → Of UTF8-char c → Encoded c
 unfolding _⊕_
@@ -119,10 +125,12 @@ a-tail : (v : ℕ) → Of UTF8-tail (tail v ∷ [])
 unfolding tail
 a-tail v = in-1 (tail v) 0x80 0xBF (omega arith)
 
-in-3 : (v a z c y : ℕ) → let lead = 0xE0 + above (above v) in let next = tail (above v) in (a ≤ lead) × (lead ≤ z) × (c ≤ next) × (next ≤ y) → Of (% a - z · % c - y · UTF8-tail) (lead ∷ next ∷ tail v ∷ [])
+in-3 : (v a z c y : ℕ) → let lead = 0xE0 + above (above v) in let next = tail (above v) in
+    (a ≤ lead) × (lead ≤ z) × (c ≤ next) × (next ≤ y) → Of (% a - z · % c - y · UTF8-tail) (lead ∷ next ∷ tail v ∷ [])
 in-3 v a z c y h = joined (byte (h .0) (h .1)) (joined (byte (h .2) (h .3)) (a-tail v))
 
-in-4 : (v a z c y : ℕ) → let lead = 0xF0 + above (above (above v)) in let next = tail (above (above v)) in (a ≤ lead) × (lead ≤ z) × (c ≤ next) × (next ≤ y) → Of (% a - z · % c - y · 2⟨ UTF8-tail ⟩) (lead ∷ next ∷ tail (above v) ∷ tail v ∷ [])
+in-4 : (v a z c y : ℕ) → let lead = 0xF0 + above (above (above v)) in let next = tail (above (above v)) in
+    (a ≤ lead) × (lead ≤ z) × (c ≤ next) × (next ≤ y) → Of (% a - z · % c - y · 2⟨ UTF8-tail ⟩) (lead ∷ next ∷ tail (above v) ∷ tail v ∷ [])
 in-4 v a z c y h = joined (byte (h .0) (h .1)) (joined (byte (h .2) (h .3)) (joined (a-tail (above v)) (a-tail v)))
 
 character : {v : ℕ} {c : List ℕ} → Scalar v → Row v c → Of UTF8-char c
@@ -131,13 +139,15 @@ character {v} s (one h) = first (in-1 v 0x00 0x7F (omega arith))
 character {v} s (two l h) = second (first (joined (in-1 (0xC0 + above v) 0xC2 0xDF (omega arith)) (a-tail v)))
 character {v} (low k) (three l h) =
     ⊎-elim (λ m. second (second (first (first (in-3 v 0xE0 0xE0 0xA0 0xBF (omega arith)))))) (λ m.
-    ⊎-elim (λ n. second (second (first (second (first (in-3 v 0xE1 0xEC 0x80 0xBF (omega arith))))))) (λ n. second (second (first (second (second (first (in-3 v 0xED 0xED 0x80 0x9F (omega arith))))))))
+    ⊎-elim (λ n. second (second (first (second (first (in-3 v 0xE1 0xEC 0x80 0xBF (omega arith)))))))
+    (λ n. second (second (first (second (second (first (in-3 v 0xED 0xED 0x80 0x9F (omega arith))))))))
     (at-most v 0xCFFF)) (at-most v 0xFFF)
 character {v} (high j k) (three l h) = second (second (first (second (second (second (in-3 v 0xEE 0xEF 0x80 0xBF (omega arith)))))))
 character (low k) (four l) = absurd (omega arith)
 character {v} (high j k) (four l) =
     ⊎-elim (λ m. second (second (second (first (in-4 v 0xF0 0xF0 0x90 0xBF (omega arith)))))) (λ m.
-    ⊎-elim (λ n. second (second (second (second (first (in-4 v 0xF1 0xF3 0x80 0xBF (omega arith))))))) (λ n. second (second (second (second (second (in-4 v 0xF4 0xF4 0x80 0x8F (omega arith)))))))
+    ⊎-elim (λ n. second (second (second (second (first (in-4 v 0xF1 0xF3 0x80 0xBF (omega arith)))))))
+    (λ n. second (second (second (second (second (in-4 v 0xF4 0xF4 0x80 0x8F (omega arith)))))))
     (at-most v 0xFFFFF)) (at-most v 0x3FFFF)
 
 -- ---- the theorem

@@ -22,7 +22,8 @@ abbrev pub pictureOf : ℕ → ℕ → ℕ → Picture
 pictureOf width height channels = record { width = width; height = height; channels = channels }
 
 abbrev pub writtenFor : List ℕ → ℕ → ℕ → ℕ → List ℕ → ℕ → List ℕ → List ℕ → List Float → Written
-writtenFor samples width height channels text locked key salt work = writtenOf text (lockFrom (isSet locked) key salt) (pictureOf width height channels) samples work
+writtenFor samples width height channels text locked key salt work =
+    writtenOf text (lockFrom (isSet locked) key salt) (pictureOf width height channels) samples work
 
 abbrev pub readFor : List ℕ → ℕ → ℕ → ℕ → ℕ → List ℕ → List Float → Read
 readFor samples width height channels keyed key work = readingOf (keyFrom (isSet keyed) key) (pictureOf width height channels) samples work

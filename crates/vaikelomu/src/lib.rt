@@ -72,10 +72,18 @@ pub extern "C" fn vaikelomu_write(
     work: &mut [f32],
     given: &mut u64,
 ) -> u8
-    ensures answer { λ r. ⌜ r ≡ codeOf (writtenFor (now (samples .entry)) width height channels (now (text .entry)) locked (now (key .entry)) (now (salt .entry)) (now (work .entry)) .answer) ⌝ }
-    ensures samples { λ _. ⌜ now (samples .exit) ≡ writtenFor (now (samples .entry)) width height channels (now (text .entry)) locked (now (key .entry)) (now (salt .entry)) (now (work .entry)) .samples ⌝ }
-    ensures work { λ _. ⌜ now (work .exit) ≡ writtenFor (now (samples .entry)) width height channels (now (text .entry)) locked (now (key .entry)) (now (salt .entry)) (now (work .entry)) .work ⌝ }
-    ensures number { λ _. ⌜ now (given .exit) ≡ givenFor (writtenFor (now (samples .entry)) width height channels (now (text .entry)) locked (now (key .entry)) (now (salt .entry)) (now (work .entry)) .answer) ⌝ }
+    ensures answer { λ r. ⌜ r
+        ≡ codeOf (writtenFor (now (samples .entry)) width height channels (now (text .entry)) locked (now (key .entry)) (now (salt .entry))
+        (now (work .entry)) .answer) ⌝ }
+    ensures samples { λ _. ⌜ now (samples .exit)
+        ≡ writtenFor (now (samples .entry)) width height channels (now (text .entry)) locked (now (key .entry)) (now (salt .entry))
+        (now (work .entry)) .samples ⌝ }
+    ensures work { λ _. ⌜ now (work .exit)
+        ≡ writtenFor (now (samples .entry)) width height channels (now (text .entry)) locked (now (key .entry)) (now (salt .entry))
+        (now (work .entry)) .work ⌝ }
+    ensures number { λ _. ⌜ now (given .exit)
+        ≡ givenFor (writtenFor (now (samples .entry)) width height channels (now (text .entry)) locked (now (key .entry)) (now (salt .entry))
+        (now (work .entry)) .answer) ⌝ }
 {
     let picture = picture_of(width, height, channels);
     let lock = lock_of(locked, key, salt);
@@ -116,9 +124,12 @@ pub extern "C" fn vaikelomu_read(
 ) -> u8
     ensures answer { λ r. ⌜ r ≡ codeOf (readFor (now (samples .entry)) width height channels keyed (now (key .entry)) (now (work .entry)) .reading .answer) ⌝ }
     ensures work { λ _. ⌜ now (work .exit) ≡ readFor (now (samples .entry)) width height channels keyed (now (key .entry)) (now (work .entry)) .work ⌝ }
-    ensures text { λ _. ⌜ now (text .exit) ≡ readFor (now (samples .entry)) width height channels keyed (now (key .entry)) (now (work .entry)) .reading .text ⌝ }
-    ensures length { λ _. ⌜ now (length .exit) ≡ readFor (now (samples .entry)) width height channels keyed (now (key .entry)) (now (work .entry)) .reading .length ⌝ }
-    ensures number { λ _. ⌜ now (given .exit) ≡ givenFor (readFor (now (samples .entry)) width height channels keyed (now (key .entry)) (now (work .entry)) .reading .answer) ⌝ }
+    ensures text { λ _. ⌜ now (text .exit)
+        ≡ readFor (now (samples .entry)) width height channels keyed (now (key .entry)) (now (work .entry)) .reading .text ⌝ }
+    ensures length { λ _. ⌜ now (length .exit)
+        ≡ readFor (now (samples .entry)) width height channels keyed (now (key .entry)) (now (work .entry)) .reading .length ⌝ }
+    ensures number { λ _. ⌜ now (given .exit)
+        ≡ givenFor (readFor (now (samples .entry)) width height channels keyed (now (key .entry)) (now (work .entry)) .reading .answer) ⌝ }
 {
     let picture = picture_of(width, height, channels);
     let reading = resilient::read(samples, picture, key_of(keyed, key), work);

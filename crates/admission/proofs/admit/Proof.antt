@@ -60,14 +60,4 @@ returns-5 c =
 pub admit-spec : {M : Type 1} → statement M
 admit-spec =
     tie.close
-    (tie.spec
-    (λ c κs. search needs)
-    returns
-    returns-2
-    pixels-requires
-    mul-all
-    (λ c. search needs)
-    mul-needed
-    returns-3
-    returns-4
-    returns-5)
+    (tie.spec (λ c κs. search needs) returns returns-2 pixels-requires mul-all (λ c. search needs) mul-needed returns-3 returns-4 returns-5)

@@ -22,7 +22,8 @@ use Rattle.block.proofs.load_block.Tie as tie
 abbrev Begun : (ℕ → ℕ → Float) → ℕ → List Float → Type 0
 Begun g r p = (length p ≡ 64) × (take (r * 8) p ≡ lines (blockLine g) r)
 
-begun-more : (g : ℕ → ℕ → Float) (r : ℕ) (p q line : List Float) → r < 8 → Begun g r p → line ≡ blockLine g r → q ≡ paste p (r * 8) line (length line) → Begun g (r + 1) q
+begun-more : (g : ℕ → ℕ → Float) (r : ℕ) (p q line : List Float) → r < 8 → Begun g r p → line ≡ blockLine g r → q ≡ paste p (r * 8) line (length line)
+    → Begun g (r + 1) q
 begun-more g r p q line h b e f =
     let l : length line ≡ 8 = ap length e ∙ length-tab (g r) 8 in
     let room : r * 8 + 8 ≤ length p = omega (arith, b .0) in
@@ -66,7 +67,8 @@ loop-again c =
     let start = turn .before .before .before .before in
     let plane = now (start .args .plane) in
     let room : at + 8 ≤ length plane = omega (arith, fits turn) in
-    let line : take (at + 8 - at) (drop at plane) ≡ tab (λ k. getD plane (lineAt (start .args .b) r + k) nan) 8 = rw (add-sub-cancel-left at 8, ← turn .line-at .ensures) (part-tab plane at 8 nan room) in (
+    let line : take (at + 8 - at) (drop at plane) ≡ tab (λ k. getD plane (lineAt (start .args .b) r + k) nan) 8 =
+    rw (add-sub-cancel-left at 8, ← turn .line-at .ensures) (part-tab plane at 8 nan room) in (
       search needs,
       begun-more _ _ _ _ _ (turn .before .loop-test .taken) (turn .before .before .loop .inv .1) line (c .before .copy-floats .ensures),
     )
@@ -78,20 +80,6 @@ returns c = begun-all _ (c .before .loop .r) _ (omega arith) (c .before .loop .i
 pub load-block-spec : {M : Type 1} → statement M
 load-block-spec =
     tie.close
-    (tie.spec
-    Inv-loop
-    μ-loop
-    loop-holds
-    (λ c κs. search needs)
-    add-end
-    mul-copy-floats
-    (λ c. search needs)
-    (λ c. search needs)
-    part-copy-floats-end
-    (λ c. search needs)
-    (λ c. search needs)
-    (λ c κs. search needs)
-    (λ c. search needs)
-    (λ c. search needs)
-    loop-again
+    (tie.spec Inv-loop μ-loop loop-holds (λ c κs. search needs) add-end mul-copy-floats (λ c. search needs) (λ c. search needs)
+    part-copy-floats-end (λ c. search needs) (λ c. search needs) (λ c κs. search needs) (λ c. search needs) (λ c. search needs) loop-again
     returns)

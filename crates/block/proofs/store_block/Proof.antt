@@ -46,16 +46,5 @@ returns c = let e : c .before .loop .r ≡ 8 = omega arith in rw e at (c .before
 pub store-block-spec : {M : Type 1} → statement M
 store-block-spec =
     tie.close
-    (tie.spec
-    Inv-loop
-    μ-loop
-    loop-holds
-    (λ c κs. search needs)
-    (λ c κs. search needs)
-    (λ c. search needs)
-    copy-floats-requires
-    (λ c. search needs)
-    (λ c. search needs)
-    loop-again
-    (λ c. search needs)
-    returns)
+    (tie.spec Inv-loop μ-loop loop-holds (λ c κs. search needs) (λ c κs. search needs) (λ c. search needs) copy-floats-requires
+    (λ c. search needs) (λ c. search needs) loop-again (λ c. search needs) returns)

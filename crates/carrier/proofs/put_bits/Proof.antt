@@ -7,15 +7,16 @@ use Rattle.carrier.proofs.put_bits.Tie as tie
 
 returns : tie.Need-returns
 unfolding markedSamples
-returns c = (search needs, rw (c .before .before .change-samples .ensures, c .before .before .before .before .before .before .before .embed-bits .ensures, c .before .before .before .before .before .before .before .before .before .before .before .plane .ensures) refl)
+returns c = (
+  search needs,
+  rw (
+    c .before .before .change-samples .ensures,
+    c .before .before .before .before .before .before .before .embed-bits .ensures,
+    c .before .before .before .before .before .before .before .before .before .before .before .plane .ensures,
+  ) refl,
+)
 
 pub put-bits-spec : {M : Type 1} → statement M
 put-bits-spec =
     tie.close
-    (tie.spec
-    (λ c κs. search needs)
-    (λ c κs. search needs)
-    (λ c κs. search needs)
-    (λ c. search needs)
-    (λ c. search needs)
-    returns)
+    (tie.spec (λ c κs. search needs) (λ c κs. search needs) (λ c κs. search needs) (λ c. search needs) (λ c. search needs) returns)

@@ -9,5 +9,4 @@ unfolding blockFrom
 returns c = rw (c .sum-bytes .ensures, c .before .before .before .ten-times .ensures)
 
 pub block-from-spec : {M : Type 1} → statement M
-block-from-spec =
-    tie.close (tie.spec (λ c. search needs) (λ c κs. search needs) (λ c κs. search needs) returns)
+block-from-spec = tie.close (tie.spec (λ c. search needs) (λ c κs. search needs) (λ c κs. search needs) returns)

@@ -18,21 +18,23 @@ returns c =
     let c3 = c4 .before .before in
     let c2 = c3 .before .before in
     let c1 = c2 .before .before in
-    rw (c .word-at11 .ensures, c10 .word-at10 .ensures, c9 .word-at9 .ensures, c8 .word-at8 .ensures, c7 .word-at7 .ensures, c6 .word-at6 .ensures, c5 .word-at5 .ensures, c4 .word-at4 .ensures, c3 .word-at3 .ensures, c2 .word-at2 .ensures, c1 .word-at .ensures)
+    rw (
+      c .word-at11 .ensures,
+      c10 .word-at10 .ensures,
+      c9 .word-at9 .ensures,
+      c8 .word-at8 .ensures,
+      c7 .word-at7 .ensures,
+      c6 .word-at6 .ensures,
+      c5 .word-at5 .ensures,
+      c4 .word-at4 .ensures,
+      c3 .word-at3 .ensures,
+      c2 .word-at2 .ensures,
+      c1 .word-at .ensures,
+    )
 
 pub first-state-spec : {M : Type 1} → statement M
 first-state-spec =
     tie.close
-    (tie.spec
-    (λ c κs. search needs)
-    (λ c κs. search needs)
-    (λ c κs. search needs)
-    (λ c κs. search needs)
-    (λ c κs. search needs)
-    (λ c κs. search needs)
-    (λ c κs. search needs)
-    (λ c κs. search needs)
-    (λ c κs. search needs)
-    (λ c κs. search needs)
-    (λ c κs. search needs)
-    returns)
+    (tie.spec (λ c κs. search needs) (λ c κs. search needs) (λ c κs. search needs) (λ c κs. search needs) (λ c κs. search needs)
+    (λ c κs. search needs) (λ c κs. search needs) (λ c κs. search needs) (λ c κs. search needs) (λ c κs. search needs)
+    (λ c κs. search needs) returns)

@@ -13,19 +13,20 @@ returns c =
     let c3 = c4 .before .before in
     let c2 = c3 .before .before in
     let c1 = c2 .before .before in
-    rw (c .quarter-round8 .ensures, c7 .quarter-round7 .ensures, c6 .quarter-round6 .ensures, c5 .quarter-round5 .ensures, c4 .quarter-round4 .ensures, c3 .quarter-round3 .ensures, c2 .quarter-round2 .ensures, c1 .quarter-round .ensures)
+    rw (
+      c .quarter-round8 .ensures,
+      c7 .quarter-round7 .ensures,
+      c6 .quarter-round6 .ensures,
+      c5 .quarter-round5 .ensures,
+      c4 .quarter-round4 .ensures,
+      c3 .quarter-round3 .ensures,
+      c2 .quarter-round2 .ensures,
+      c1 .quarter-round .ensures,
+    )
     (let sixteen = c1 .before .before .good .0 in exchanged-inner _ (search needs))
 
 pub inner-block-spec : {M : Type 1} → statement M
 inner-block-spec =
     tie.close
-    (tie.spec
-    (λ c κs. search needs)
-    (λ c κs. search needs)
-    (λ c κs. search needs)
-    (λ c κs. search needs)
-    (λ c κs. search needs)
-    (λ c κs. search needs)
-    (λ c κs. search needs)
-    (λ c κs. search needs)
-    returns)
+    (tie.spec (λ c κs. search needs) (λ c κs. search needs) (λ c κs. search needs) (λ c κs. search needs) (λ c κs. search needs)
+    (λ c κs. search needs) (λ c κs. search needs) (λ c κs. search needs) returns)

@@ -14,18 +14,19 @@ returns c =
     let c3 = c4 .before in
     let c2 = c3 .before in
     let c1 = c2 .before in
-    rw (c .roll-left4 .ensures, c7 .wrapping-add-u324 .ensures, c6 .roll-left3 .ensures, c5 .wrapping-add-u323 .ensures, c4 .roll-left2 .ensures, c3 .wrapping-add-u322 .ensures, c2 .roll-left .ensures, c1 .wrapping-add-u32 .ensures)
+    rw (
+      c .roll-left4 .ensures,
+      c7 .wrapping-add-u324 .ensures,
+      c6 .roll-left3 .ensures,
+      c5 .wrapping-add-u323 .ensures,
+      c4 .roll-left2 .ensures,
+      c3 .wrapping-add-u322 .ensures,
+      c2 .roll-left .ensures,
+      c1 .wrapping-add-u32 .ensures,
+    )
 
 pub quarter-spec : {M : Type 1} → statement M
 quarter-spec =
     tie.close
-    (tie.spec
-    (λ c κs. search needs)
-    (λ c κs. search needs)
-    (λ c κs. search needs)
-    (λ c κs. search needs)
-    (λ c κs. search needs)
-    (λ c κs. search needs)
-    (λ c κs. search needs)
-    (λ c κs. search needs)
-    returns)
+    (tie.spec (λ c κs. search needs) (λ c κs. search needs) (λ c κs. search needs) (λ c κs. search needs) (λ c κs. search needs)
+    (λ c κs. search needs) (λ c κs. search needs) (λ c κs. search needs) returns)

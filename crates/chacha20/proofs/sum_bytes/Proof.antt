@@ -21,7 +21,8 @@ abbrev sumAt : List ℕ → List ℕ → ℕ → ℕ
 sumAt s t k = plusWord (getD s k 0) (getD t k 0)
 
 -- four stores in a row
-stored : (a b c d n : ℕ) (xs : List ℕ) → n + 4 ≤ length xs → take (n + 4) (set (set (set (set xs n a) (n + 1) b) (n + 2) c) (n + 3) d) ≡ take n xs ++ (a ∷ b ∷ c ∷ d ∷ [])
+stored : (a b c d n : ℕ) (xs : List ℕ) → n + 4 ≤ length xs
+    → take (n + 4) (set (set (set (set xs n a) (n + 1) b) (n + 2) c) (n + 3) d) ≡ take n xs ++ (a ∷ b ∷ c ∷ d ∷ [])
 stored a b c d n xs h =
     let front : length (take n xs ++ (a ∷ b ∷ c ∷ d ∷ [])) ≡ n + 4 = simp length-append (omega (arith, length-take-le n xs (omega arith))) in
     simp towards-suc (rw (sets-eq (a ∷ b ∷ c ∷ d ∷ []) xs n h) (take-at (take n xs ++ (a ∷ b ∷ c ∷ d ∷ [])) _ _ (simp towards-suc at front)))
@@ -42,8 +43,11 @@ loop-again c =
     let top = c .before .before .before .before in
     let i = top .loop .i in
     let word : c .wrapping-add-u32 .result ≡ sumAt (now (top .before .args .s)) (now (top .before .args .t)) i = c .wrapping-add-u32 .ensures in
-    let four : 4 * (i + 1) ≡ 4 * i + 4 = omega arith in
-    (search needs, simp length-set (search needs), rw (four, stored _ _ _ _ (4 * i) (top .loop .out) (omega arith), top .loop .inv .2, word) (sym (serialized-more _ i)))
+    let four : 4 * (i + 1) ≡ 4 * i + 4 = omega arith in (
+      search needs,
+      simp length-set (search needs),
+      rw (four, stored _ _ _ _ (4 * i) (top .loop .out) (omega arith), top .loop .inv .2, word) (sym (serialized-more _ i)),
+    )
 
 returns : tie.Need-returns Inv-loop μ-loop
 unfolding sums
@@ -54,28 +58,7 @@ returns c =
 pub sum-bytes-spec : {M : Type 1} → statement M
 sum-bytes-spec =
     tie.close
-    (tie.spec
-    Inv-loop
-    μ-loop
-    loop-holds
-    (λ c. search needs)
-    (λ c. search needs)
-    (λ c. search needs)
-    (λ c. search needs)
-    (λ c κs. search needs)
-    (λ c. search needs)
-    (λ c. search needs)
-    (λ c. search needs)
-    (λ c. search needs)
-    (λ c. search needs)
-    (λ c. search needs)
-    (λ c. search needs)
-    (λ c. search needs)
-    (λ c. search needs)
-    (λ c. search needs)
-    (λ c. search needs)
-    (λ c. search needs)
-    (λ c. search needs)
-    (λ c. search needs)
-    loop-again
-    returns)
+    (tie.spec Inv-loop μ-loop loop-holds (λ c. search needs) (λ c. search needs) (λ c. search needs) (λ c. search needs)
+    (λ c κs. search needs) (λ c. search needs) (λ c. search needs) (λ c. search needs) (λ c. search needs) (λ c. search needs)
+    (λ c. search needs) (λ c. search needs) (λ c. search needs) (λ c. search needs) (λ c. search needs) (λ c. search needs)
+    (λ c. search needs) (λ c. search needs) (λ c. search needs) loop-again returns)

@@ -28,12 +28,4 @@ returns c = let all : c .before .loop .counter ≡ 10 = omega arith in rw all at
 pub ten-times-spec : {M : Type 1} → statement M
 ten-times-spec =
     tie.close
-    (tie.spec
-    Inv-loop
-    μ-loop
-    loop-holds
-    (λ c κs. search needs)
-    (λ c. search needs)
-    (λ c. search needs)
-    loop-again
-    returns)
+    (tie.spec Inv-loop μ-loop loop-holds (λ c κs. search needs) (λ c. search needs) (λ c. search needs) loop-again returns)

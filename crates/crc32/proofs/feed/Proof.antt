@@ -22,8 +22,11 @@ loop-again : tie.Need-loop-again Inv-loop μ-loop
 loop-again c =
     let l = c .before .before .before .before .loop in
     let s = c .before .before .before .before .before .before .args .bytes .now in
-    let byte : getD s (l .i) 0 < 256 = omega (arith, c .before .before .shared-slice-known2 .given (l .i)) in
-    (search needs, search needs, rw (c .look-byte .ensures, c .before .from-u8 .ensures) (register-more (l .x) (l .sum) (l .i) s (omega arith) byte ∙ l .inv .2))
+    let byte : getD s (l .i) 0 < 256 = omega (arith, c .before .before .shared-slice-known2 .given (l .i)) in (
+      search needs,
+      search needs,
+      rw (c .look-byte .ensures, c .before .from-u8 .ensures) (register-more (l .x) (l .sum) (l .i) s (omega arith) byte ∙ l .inv .2),
+    )
 
 returns : tie.Need-returns Inv-loop μ-loop
 returns c =
@@ -34,16 +37,5 @@ returns c =
 pub feed-spec : {M : Type 1} → statement M
 feed-spec =
     tie.close
-    (tie.spec
-    Inv-loop
-    μ-loop
-    (λ c. search needs)
-    (λ c. search needs)
-    (λ c. search needs)
-    (λ c. search needs)
-    (λ c κs. search needs)
-    (λ c κs. search needs)
-    (λ c. search needs)
-    (λ c. search needs)
-    loop-again
-    returns)
+    (tie.spec Inv-loop μ-loop (λ c. search needs) (λ c. search needs) (λ c. search needs) (λ c. search needs) (λ c κs. search needs)
+    (λ c κs. search needs) (λ c. search needs) (λ c. search needs) loop-again returns)

@@ -29,14 +29,5 @@ returns c = fills-all (c .before .loop .inv .1) (omega arith) ∙ table-grid dct
 pub dct-matrix-spec : {M : Type 1} → statement M
 dct-matrix-spec =
     tie.close
-    (tie.spec
-    Inv-loop
-    μ-loop
-    loop-holds
-    (λ c κs. search needs)
-    (λ c. search needs)
-    (λ c. search needs)
-    (λ c. search needs)
-    (λ c. search needs)
-    loop-again
-    returns)
+    (tie.spec Inv-loop μ-loop loop-holds (λ c κs. search needs) (λ c. search needs) (λ c. search needs) (λ c. search needs)
+    (λ c. search needs) loop-again returns)

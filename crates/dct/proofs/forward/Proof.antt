@@ -11,7 +11,8 @@ use Rattle.dct.proofs.forward.Tie as tie
 returns : tie.Need-returns
 returns c =
     let start = c .before .before .before .before in
-    c .product2 .ensures ∙ (columns-by dctEntry (now (start .args .matrix)) _ (start .pre .0) ∙ ap (throughColumns dctEntry) (c .before .before .product .ensures ∙ rows-by dctEntry (now (start .args .block)) _ (start .pre .1)))
+    c .product2 .ensures ∙ (columns-by dctEntry (now (start .args .matrix)) _ (start .pre .0)
+    ∙ ap (throughColumns dctEntry) (c .before .before .product .ensures ∙ rows-by dctEntry (now (start .args .block)) _ (start .pre .1)))
 
 pub forward-spec : {M : Type 1} → statement M
 forward-spec = tie.close (tie.spec (λ c κs. search needs) (λ c κs. search needs) returns)

@@ -11,7 +11,8 @@ use Rattle.dct.proofs.inverse.Tie as tie
 returns : tie.Need-returns
 returns c =
     let start = c .before .before .before .before in
-    c .product2 .ensures ∙ (rows-by dctTurned _ (now (start .args .matrix)) (start .pre .0) ∙ ap (throughRows dctTurned) (c .before .before .product .ensures ∙ columns-by dctTurned (now (start .args .turned)) _ (start .pre .1)))
+    c .product2 .ensures ∙ (rows-by dctTurned _ (now (start .args .matrix)) (start .pre .0)
+    ∙ ap (throughRows dctTurned) (c .before .before .product .ensures ∙ columns-by dctTurned (now (start .args .turned)) _ (start .pre .1)))
 
 pub inverse-spec : {M : Type 1} → statement M
 inverse-spec = tie.close (tie.spec (λ c κs. search needs) (λ c κs. search needs) returns)

@@ -14,7 +14,8 @@ use Rattle.decoder.proofs.backward.Tie as tie
 
 abbrev Inv-loop : tie.InvT-loop
 Inv-loop decisions end bits₀ state₀ t₀ bits state t =
-    (t ≤ length decisions) × (length bits ≡ length bits₀) × (state < 64) × (state ≡ tracedFrom (drop t decisions) end) × (drop t bits ≡ tracedPath (drop t decisions) end)
+    (t ≤ length decisions) × (length bits ≡ length bits₀) × (state < 64) × (state ≡ tracedFrom (drop t decisions) end)
+    × (drop t bits ≡ tracedPath (drop t decisions) end)
 
 abbrev μ-loop : tie.MeasureT-loop
 μ-loop decisions end bits₀ state₀ t₀ bits state t = t
@@ -41,7 +42,8 @@ loop-again c =
       length-set (l .bits) u (l .state / 32) ∙ l .inv .1,
       omega arith,
       ap (λ (x : ℕ). (2 * l .state + x) % 64) (c .bit-of .ensures) ∙ sym (orig-at (a .decisions .now) (a .end) u (l .state) U j),
-      drop-set (l .bits) u (l .state / 32) (omega arith) ∙ ap (λ (x : List ℕ). l .state / 32 ∷ x) w ∙ sym (path-at (a .decisions .now) (a .end) u (l .state) U j),
+      drop-set (l .bits) u (l .state / 32) (omega arith) ∙ ap (λ (x : List ℕ). l .state / 32 ∷ x) w
+          ∙ sym (path-at (a .decisions .now) (a .end) u (l .state) U j),
     )
 
 returns : tie.Need-returns Inv-loop μ-loop
@@ -53,19 +55,5 @@ returns c =
 pub backward-spec : {M : Type 1} → statement M
 backward-spec =
     tie.close
-    (tie.spec
-    Inv-loop
-    μ-loop
-    loop-holds
-    (λ c. search needs)
-    (λ c. search needs)
-    (λ c. search needs)
-    (λ c. search needs)
-    (λ c. search needs)
-    (λ c. search needs)
-    (λ c κs. search needs)
-    (λ c. search needs)
-    (λ c. search needs)
-    loop-again
-    (λ c. search needs)
-    returns)
+    (tie.spec Inv-loop μ-loop loop-holds (λ c. search needs) (λ c. search needs) (λ c. search needs) (λ c. search needs) (λ c. search needs)
+    (λ c. search needs) (λ c κs. search needs) (λ c. search needs) (λ c. search needs) loop-again (λ c. search needs) returns)

@@ -47,16 +47,5 @@ returns c =
 pub byte-of-spec : {M : Type 1} → statement M
 byte-of-spec =
     tie.close
-    (tie.spec
-    Inv-loop
-    μ-loop
-    loop-holds
-    mul-v
-    (λ c. search needs)
-    (λ c. search needs)
-    (λ c. search needs)
-    add-v-2
-    (λ c. search needs)
-    (λ c. search needs)
-    loop-again
-    returns)
+    (tie.spec Inv-loop μ-loop loop-holds mul-v (λ c. search needs) (λ c. search needs) (λ c. search needs) add-v-2 (λ c. search needs)
+    (λ c. search needs) loop-again returns)

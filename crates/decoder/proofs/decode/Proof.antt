@@ -10,25 +10,20 @@ use Rattle.decoder.proofs.decode.Tie as tie
 pack-requires : tie.Need-pack-requires
 pack-requires c κs =
     let soft = c .before .before .before .before .before .before .before .before .before .before .args .soft .now in
-    let e = decoded-by floats soft _ _ _ (c .before .before .before .before .before .before .before .forward .ensures .0) (c .before .before .before .before .before .before .before .forward .ensures .2) (c .before .before .before .backward .ensures) in
+    let e = decoded-by floats soft _ _ _ (c .before .before .before .before .before .before .before .forward .ensures .0)
+    (c .before .before .before .before .before .before .before .forward .ensures .2) (c .before .before .before .backward .ensures) in
     (search needs, rw e (decoded-bits floats soft))
 
 returns : tie.Need-returns
 returns c =
     let soft = c .before .before .before .before .before .before .before .before .before .before .before .before .args .soft .now in
-    let e = decoded-by floats soft _ _ _ (c .before .before .before .before .before .before .before .before .before .forward .ensures .0) (c .before .before .before .before .before .before .before .before .before .forward .ensures .2) (c .before .before .before .before .before .backward .ensures) in
+    let e = decoded-by floats soft _ _ _ (c .before .before .before .before .before .before .before .before .before .forward .ensures .0)
+    (c .before .before .before .before .before .before .before .before .before .forward .ensures .2)
+    (c .before .before .before .before .before .backward .ensures) in
     (c .before .pack .ensures ∙ ap (bytesOf recordSize) e, c .before .before .before .before .before .before .before .before .before .forward .ensures .1)
 
 pub decode-spec : {M : Type 1} → statement M
 decode-spec =
     tie.close
-    (tie.spec
-    (λ c. search needs)
-    (λ c κs. search needs)
-    (λ c. search needs)
-    (λ c. search needs)
-    (λ c κs. search needs)
-    (λ c. search needs)
-    (λ c. search needs)
-    pack-requires
-    returns)
+    (tie.spec (λ c. search needs) (λ c κs. search needs) (λ c. search needs) (λ c. search needs) (λ c κs. search needs) (λ c. search needs)
+    (λ c. search needs) pack-requires returns)

@@ -15,7 +15,8 @@ use Rattle.decoder.proofs.forward.Tie as tie
 
 abbrev Inv-loop : tie.InvT-loop
 Inv-loop soft decisions₀ metric₀ t₀ decisions metric t =
-    (t ≤ length decisions) × (length decisions ≡ length decisions₀) × (length soft ≡ 2 * length decisions) × (metric ≡ metricsAfter floats (starting floats) (take (2 * t) soft)) × (take t decisions ≡ decisionRows floats (starting floats) (take (2 * t) soft))
+    (t ≤ length decisions) × (length decisions ≡ length decisions₀) × (length soft ≡ 2 * length decisions)
+    × (metric ≡ metricsAfter floats (starting floats) (take (2 * t) soft)) × (take t decisions ≡ decisionRows floats (starting floats) (take (2 * t) soft))
 
 abbrev μ-loop : tie.MeasureT-loop
 μ-loop soft decisions₀ metric₀ t₀ decisions metric t = length decisions₀ - t
@@ -33,8 +34,10 @@ loop-again c =
       omega (arith, k),
       k ∙ l .inv .1,
       l .inv .2 ∙ ap (λ (n : ℕ). 2 * n) (sym k),
-      metric-step floats (starting floats) (a .soft .now) nan (l .t) (l .metric) (c .before .advance .result .metric) L (l .inv .3) (c .before .advance .ensures .0),
-      rows-step floats (starting floats) (a .soft .now) nan (l .t) (l .metric) (l .decisions) (c .before .advance .result .odd) L (omega arith) (l .inv .3) (c .before .advance .ensures .1) (l .inv .4),
+      metric-step floats (starting floats) (a .soft .now) nan (l .t) (l .metric) (c .before .advance .result .metric) L (l .inv .3)
+          (c .before .advance .ensures .0),
+      rows-step floats (starting floats) (a .soft .now) nan (l .t) (l .metric) (l .decisions) (c .before .advance .result .odd) L (omega arith) (l .inv .3)
+          (c .before .advance .ensures .1) (l .inv .4),
     )
 
 returns : tie.Need-returns Inv-loop μ-loop
@@ -42,31 +45,16 @@ unfolding strength
 returns c =
     let l = c .before .before .before .loop in
     let a = c .before .before .before .before .before .before .before .args in
-    let whole : take (2 * l .t) (a .soft .now) ≡ a .soft .now = take-all (2 * l .t) (a .soft .now) (omega arith) in
-    (c .end-of .ensures .0, c .end-of .ensures .1 ∙ ap (λ (m : List Float). getD m 0 nan) (l .inv .3 ∙ ap (metricsAfter floats (starting floats)) whole), sym (take-all (l .t) (l .decisions) (omega arith)) ∙ l .inv .4 ∙ ap (decisionRows floats (starting floats)) whole)
+    let whole : take (2 * l .t) (a .soft .now) ≡ a .soft .now = take-all (2 * l .t) (a .soft .now) (omega arith) in (
+      c .end-of .ensures .0,
+      c .end-of .ensures .1 ∙ ap (λ (m : List Float). getD m 0 nan) (l .inv .3 ∙ ap (metricsAfter floats (starting floats)) whole),
+      sym (take-all (l .t) (l .decisions) (omega arith)) ∙ l .inv .4 ∙ ap (decisionRows floats (starting floats)) whole,
+    )
 
 pub forward-spec : {M : Type 1} → statement M
 forward-spec =
     tie.close
-    (tie.spec
-    Inv-loop
-    μ-loop
-    (λ c κs. search needs)
-    (λ c. search needs)
-    loop-holds
-    (λ c. search needs)
-    (λ c. search needs)
-    (λ c. search needs)
-    (λ c. search needs)
-    (λ c. search needs)
-    (λ c. search needs)
-    (λ c. search needs)
-    (λ c κs. search needs)
-    (λ c. search needs)
-    (λ c. search needs)
-    (λ c. search needs)
-    (λ c. search needs)
-    loop-again
-    (λ c κs. search needs)
-    (λ c. search needs)
+    (tie.spec Inv-loop μ-loop (λ c κs. search needs) (λ c. search needs) loop-holds (λ c. search needs) (λ c. search needs)
+    (λ c. search needs) (λ c. search needs) (λ c. search needs) (λ c. search needs) (λ c. search needs) (λ c κs. search needs)
+    (λ c. search needs) (λ c. search needs) (λ c. search needs) (λ c. search needs) loop-again (λ c κs. search needs) (λ c. search needs)
     returns)

@@ -7,7 +7,8 @@ use Rattle.decoder.proofs.put.Statement.{statement}
 use Rattle.decoder.proofs.put.Tie as tie
 
 add-result : tie.Need-add-result
-add-result c = rw (put-exact (c .args .bit) (c .args .k) (search needs) (search needs)) (record { fits = put-fits (c .args .d) (c .args .bit) (c .args .k) (search needs) (search needs) (search needs) })
+add-result c = rw (put-exact (c .args .bit) (c .args .k) (search needs) (search needs))
+    (record { fits = put-fits (c .args .d) (c .args .bit) (c .args .k) (search needs) (search needs) (search needs) })
 
 returns : tie.Need-returns
 returns c = ap (λ (x : ℕ). c .args .d + x) (put-exact (c .args .bit) (c .args .k) (search needs) (search needs))

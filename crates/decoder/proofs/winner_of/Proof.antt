@@ -14,7 +14,8 @@ returns c =
     let s = c .before .before .before .before .before .before .before .before in
     let a = c .before .before .before .before .before .before .vote in
     let b = c .before .before .before .before .vote2 in
-    winner-law (s .args .m .now) (s .args .s0) (s .args .s1) (s .args .k) (s .args .even) (a .result) (b .result) (c .before .before .found .result) true (s .pre .0) (s .pre .1)
+    winner-law (s .args .m .now) (s .args .s0) (s .args .s1) (s .args .k) (s .args .even) (a .result) (b .result) (c .before .before .found .result) true
+    (s .pre .0) (s .pre .1)
     (a .ensures ∙ ap (λ (x : ℕ). voted neg x (s .args .s0)) (c .before .before .before .before .before .before .before .first-out .ensures))
     (b .ensures ∙ ap (λ (x : ℕ). voted neg x (s .args .s1)) (c .before .before .before .before .before .second-out .ensures))
     (c .before .before .found .ensures)
@@ -25,7 +26,8 @@ returns-2 c =
     let s = c .before .before .before .before .before .before .before .before in
     let a = c .before .before .before .before .before .before .vote in
     let b = c .before .before .before .before .vote2 in
-    winner-law (s .args .m .now) (s .args .s0) (s .args .s1) (s .args .k) (s .args .even) (a .result) (b .result) (c .before .before .found .result) false (s .pre .0) (s .pre .1)
+    winner-law (s .args .m .now) (s .args .s0) (s .args .s1) (s .args .k) (s .args .even) (a .result) (b .result) (c .before .before .found .result) false
+    (s .pre .0) (s .pre .1)
     (a .ensures ∙ ap (λ (x : ℕ). voted neg x (s .args .s0)) (c .before .before .before .before .before .before .before .first-out .ensures))
     (b .ensures ∙ ap (λ (x : ℕ). voted neg x (s .args .s1)) (c .before .before .before .before .before .second-out .ensures))
     (c .before .before .found .ensures)
@@ -34,16 +36,5 @@ returns-2 c =
 pub winner-of-spec : {M : Type 1} → statement M
 winner-of-spec =
     tie.close
-    (tie.spec
-    (λ c κs. search needs)
-    (λ c κs. search needs)
-    (λ c κs. search needs)
-    (λ c κs. search needs)
-    (λ c. search needs)
-    (λ c. search needs)
-    (λ c κs. search needs)
-    (λ c. search needs)
-    (λ c. search needs)
-    (λ c. search needs)
-    returns
-    returns-2)
+    (tie.spec (λ c κs. search needs) (λ c κs. search needs) (λ c κs. search needs) (λ c κs. search needs) (λ c. search needs)
+    (λ c. search needs) (λ c κs. search needs) (λ c. search needs) (λ c. search needs) (λ c. search needs) returns returns-2)

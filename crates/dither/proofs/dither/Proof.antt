@@ -12,7 +12,8 @@ use Rattle.dither.proofs.dither.Tie as tie
 
 returns : tie.Need-returns
 unfolding layoutKey ditherNonce
-returns c = c .numbers .ensures ∙ (ap (λ (l : List ℕ). tab (dithered l) 16) (c .before .before .block .ensures) ∙ group-of (c .before .before .before .before .before .args .group))
+returns c = c .numbers .ensures
+    ∙ (ap (λ (l : List ℕ). tab (dithered l) 16) (c .before .before .block .ensures) ∙ group-of (c .before .before .before .before .before .args .group))
 
 pub dither-spec : {M : Type 1} → statement M
 dither-spec = tie.close (tie.spec (λ c κs. search needs) (λ c κs. search needs) returns)

@@ -13,6 +13,4 @@ returns-2 : tie.Need-returns-2
 returns-2 c = sym (bit-out (c .before .args .bytes .now) (c .before .args .t) (c .if1 .left))
 
 pub bit-at-spec : {M : Type 1} → statement M
-bit-at-spec =
-    tie.close
-    (tie.spec (λ c. search needs) (λ c. search needs) (λ c. search needs) (λ c. search needs) returns returns-2)
+bit-at-spec = tie.close (tie.spec (λ c. search needs) (λ c. search needs) (λ c. search needs) (λ c. search needs) returns returns-2)

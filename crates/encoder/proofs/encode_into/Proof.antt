@@ -14,7 +14,8 @@ use Rattle.encoder.proofs.encode_into.Tie as tie
 
 abbrev Inv-loop : tie.InvT-loop
 Inv-loop bytes coded₀ steps state₀ t₀ coded state t =
-    (t ≤ steps) × (length coded ≡ length coded₀) × (state < 64) × (state ≡ run 0 (take t (recordBits bytes sixZeros))) × (take (2 * t) coded ≡ code 0 (take t (recordBits bytes sixZeros)))
+    (t ≤ steps) × (length coded ≡ length coded₀) × (state < 64) × (state ≡ run 0 (take t (recordBits bytes sixZeros)))
+    × (take (2 * t) coded ≡ code 0 (take t (recordBits bytes sixZeros)))
 
 abbrev μ-loop : tie.MeasureT-loop
 μ-loop bytes coded₀ steps state₀ t₀ coded state t = steps - t
@@ -35,7 +36,8 @@ loop-again c =
     let x = c .before .before .bit-at .result in
     let X : x ≡ getD bs (l .t) 0 = c .before .before .bit-at .ensures in
     let B : x < 2 = rw X (bits-at bs (l .t) (recordBits-bits (a .bytes .now) sixZeros six-bits)) in
-    let w = word-step bs (l .coded) (l .t) (l .state) (x * 64 + l .state) (c .before .parity-of .result) (c .parity-of2 .result) (omega arith) (omega arith) (l .inv .3) (ap (λ (y : ℕ). y * 64 + l .state) X) (c .before .parity-of .ensures) (c .parity-of2 .ensures) (l .inv .4) in
+    let w = word-step bs (l .coded) (l .t) (l .state) (x * 64 + l .state) (c .before .parity-of .result) (c .parity-of2 .result) (omega arith) (omega arith)
+    (l .inv .3) (ap (λ (y : ℕ). y * 64 + l .state) X) (c .before .parity-of .ensures) (c .parity-of2 .ensures) (l .inv .4) in
     (omega arith, simp length-set (l .inv .1), omega arith, w .0, w .1)
 
 returns : tie.Need-returns Inv-loop μ-loop
@@ -50,25 +52,7 @@ returns c =
 pub encode-into-spec : {M : Type 1} → statement M
 encode-into-spec =
     tie.close
-    (tie.spec
-    Inv-loop
-    μ-loop
-    (λ c. search needs)
-    (λ c. search needs)
-    loop-holds
-    (λ c κs. search needs)
-    (λ c. search needs)
-    (λ c. search needs)
-    (λ c. search needs)
-    (λ c κs. search needs)
-    (λ c. search needs)
-    (λ c. search needs)
-    (λ c κs. search needs)
-    (λ c. search needs)
-    (λ c. search needs)
-    slice-write-coded-2
-    (λ c. search needs)
-    (λ c. search needs)
-    loop-again
-    (λ c. search needs)
+    (tie.spec Inv-loop μ-loop (λ c. search needs) (λ c. search needs) loop-holds (λ c κs. search needs) (λ c. search needs)
+    (λ c. search needs) (λ c. search needs) (λ c κs. search needs) (λ c. search needs) (λ c. search needs) (λ c κs. search needs)
+    (λ c. search needs) (λ c. search needs) slice-write-coded-2 (λ c. search needs) (λ c. search needs) loop-again (λ c. search needs)
     returns)

@@ -15,7 +15,8 @@ returns-2 c = absolute-below (c .before .before .args .x) (known (c .if2 .taken)
 
 returns-3 : tie.Need-returns-3
 unfolding ofBits
-returns-3 c = absolute-rest binary64 (c .before .before .args .x) (known (c .before .before .good .0 .1)) (known-not (c .before .if1 .left)) (known-not (c .if2 .left))
+returns-3 c = absolute-rest binary64 (c .before .before .args .x) (known (c .before .before .good .0 .1)) (known-not (c .before .if1 .left))
+    (known-not (c .if2 .left))
 
 pub abs-f64-spec : {M : Type 1} → statement M
 abs-f64-spec = tie.close (tie.spec returns returns-2 returns-3)

@@ -19,7 +19,9 @@ unfolding div ofBits
 no-quotient = refl
 
 returns : tie.Need-returns
-returns c = no-quotient ∙ sym (is-nan (ofBits binary32 (c .before .args .bits)) (sym (nanBits-is binary32 (c .before .args .bits)) ∙ nanBits-above binary32 (c .before .args .bits) ∙ lt-ltb _ _ (c .if1 .taken)))
+returns c = no-quotient
+    ∙ sym (is-nan (ofBits binary32 (c .before .args .bits))
+    (sym (nanBits-is binary32 (c .before .args .bits)) ∙ nanBits-above binary32 (c .before .args .bits) ∙ lt-ltb _ _ (c .if1 .taken)))
 
 float-from-bits-result : tie.Need-float-from-bits-result
 float-from-bits-result c = known-not (nanBits-above binary32 (c .before .args .bits) ∙ le-ltb _ _ (c .if1 .left))

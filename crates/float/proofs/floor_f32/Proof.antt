@@ -32,7 +32,8 @@ float-to-float-result c =
     let x = at .before .args .x in
     let t = held (at .before) in
     subst (λ (z : Float). T (fits binary32 z && not (isNan z))) (sym (c .before .floor-f64 .ensures ∙ floor-widens x t))
-    (and-i (fits binary32 (floor binary32 x)) (not (isNan (floor binary32 x))) (floor-fits binary32 x t) (floor-number binary32 x t (equals-itself x (at .if1 .left))))
+    (and-i (fits binary32 (floor binary32 x)) (not (isNan (floor binary32 x))) (floor-fits binary32 x t)
+    (floor-number binary32 x t (equals-itself x (at .if1 .left))))
 
 returns-2 : tie.Need-returns-2
 returns-2 c = c .before .floor-f64 .ensures ∙ floor-widens (c .before .before .before .before .args .x) (held (c .before .before .before .before))

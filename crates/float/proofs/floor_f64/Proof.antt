@@ -17,13 +17,15 @@ returns : tie.Need-returns
 unfolding ofBits
 returns c =
     let x = c .before .before .before .args .x in
-    floor-less binary64 x (held (c .before .before .before)) (under-above 52 x (known (c .before .before .if1 .taken)) (known (c .before .if2 .taken))) (c .if3 .taken)
+    floor-less binary64 x (held (c .before .before .before)) (under-above 52 x (known (c .before .before .if1 .taken)) (known (c .before .if2 .taken)))
+    (c .if3 .taken)
 
 returns-2 : tie.Need-returns-2
 unfolding ofBits
 returns-2 c =
     let x = c .before .before .before .args .x in
-    floor-near binary64 x (held (c .before .before .before)) (under-above 52 x (known (c .before .before .if1 .taken)) (known (c .before .if2 .taken))) (c .if3 .left)
+    floor-near binary64 x (held (c .before .before .before)) (under-above 52 x (known (c .before .before .if1 .taken)) (known (c .before .if2 .taken)))
+    (c .if3 .left)
 
 returns-3 : tie.Need-returns-3
 unfolding ofBits
@@ -36,14 +38,16 @@ returns-4 : tie.Need-returns-4
 unfolding ofBits neg
 returns-4 c =
     let x = c .before .before .before .before .args .x in
-    floor-neg-more binary64 (neg x) (neg-fits binary64 x (held (c .before .before .before .before))) (under-below 52 x (known (c .before .before .if4 .taken)) (known (c .before .if5 .taken))) (c .if6 .taken)
+    floor-neg-more binary64 (neg x) (neg-fits binary64 x (held (c .before .before .before .before)))
+    (under-below 52 x (known (c .before .before .if4 .taken)) (known (c .before .if5 .taken))) (c .if6 .taken)
     ∙ ap (λ (z : Float). floor binary64 z) (neg-neg x)
 
 returns-5 : tie.Need-returns-5
 unfolding ofBits neg
 returns-5 c =
     let x = c .before .before .before .before .args .x in
-    floor-neg-near binary64 (neg x) (neg-fits binary64 x (held (c .before .before .before .before))) (under-below 52 x (known (c .before .before .if4 .taken)) (known (c .before .if5 .taken))) (c .if6 .left)
+    floor-neg-near binary64 (neg x) (neg-fits binary64 x (held (c .before .before .before .before)))
+    (under-below 52 x (known (c .before .before .if4 .taken)) (known (c .before .if5 .taken))) (c .if6 .left)
     ∙ ap (λ (z : Float). floor binary64 z) (neg-neg x)
 
 returns-6 : tie.Need-returns-6

@@ -41,11 +41,5 @@ returns-4 c = narrow-nan (c .before .before .before .args .x) (c .before .before
 pub narrow-f64-spec : {M : Type 1} → statement M
 narrow-f64-spec =
     tie.close
-    (tie.spec
-    narrow-above-zero-requires
-    (λ c. search needs)
-    narrow-above-zero-requires-2
-    returns-2
-    float-to-float-result
-    returns-3
+    (tie.spec narrow-above-zero-requires (λ c. search needs) narrow-above-zero-requires-2 returns-2 float-to-float-result returns-3
     returns-4)

@@ -32,8 +32,10 @@ infinity = refl
 abbrev y-of : Float → ℕ → Float
 y-of x b = sub binary64 (add binary64 x (ofBits binary64 b)) (ofBits binary64 b)
 
-test : (x : Float) (e : ℕ) (t : Bool) → e ≤ 1150 → lt (y-of x ((e + 29) * 2 ^ 52 % 2 ^ 64)) (ofBits binary64 0x47f0_0000_0000_0000) ≡ t → lt (stepped x e) (two-to 128) ≡ t
-test x e t h p = ap (λ (b : ℕ). lt (y-of x b) (two-to 128)) (sym (whole-shift e h)) ∙ ap (λ (z : Float). lt (y-of x ((e + 29) * 2 ^ 52 % 2 ^ 64)) z) (sym top-is) ∙ p
+test : (x : Float) (e : ℕ) (t : Bool) → e ≤ 1150 → lt (y-of x ((e + 29) * 2 ^ 52 % 2 ^ 64)) (ofBits binary64 0x47f0_0000_0000_0000) ≡ t
+    → lt (stepped x e) (two-to 128) ≡ t
+test x e t h p = ap (λ (b : ℕ). lt (y-of x b) (two-to 128)) (sym (whole-shift e h))
+    ∙ ap (λ (z : Float). lt (y-of x ((e + 29) * 2 ^ 52 % 2 ^ 64)) z) (sym top-is) ∙ p
 
 float-to-bits-at-least : tie.Need-float-to-bits-at-least
 float-to-bits-at-least c = positive-no-nan (c .args .x) (c .pre .0)
@@ -50,7 +52,8 @@ float-to-float-result c =
     let x = at .before .args .x in
     let e = at .at-least .result in
     let h = law at .e-small in
-    subst (λ (b : ℕ). T (fits binary32 (y-of x b) && not (isNan (y-of x b)))) (sym (whole-shift e h)) (law at .under-fits (test x e true h (c .before .if1 .taken)))
+    subst (λ (b : ℕ). T (fits binary32 (y-of x b) && not (isNan (y-of x b)))) (sym (whole-shift e h))
+    (law at .under-fits (test x e true h (c .before .if1 .taken)))
 
 returns : tie.Need-returns
 returns c =
@@ -75,12 +78,5 @@ returns-2 c =
 pub narrow-in-range-spec : {M : Type 1} → statement M
 narrow-in-range-spec =
     tie.close
-    (tie.spec
-    float-to-bits-at-least
-    (λ c κs. search needs)
-    add-m
-    float-from-bits-m
-    float-to-float-result
-    returns
-    float-from-bits-result
+    (tie.spec float-to-bits-at-least (λ c κs. search needs) add-m float-from-bits-m float-to-float-result returns float-from-bits-result
     returns-2)

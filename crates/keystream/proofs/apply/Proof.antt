@@ -29,11 +29,4 @@ returns-2 c =
 pub apply-spec : {M : Type 1} → statement M
 apply-spec =
     tie.close
-    (tie.spec
-    (λ c κs. search needs)
-    (λ c. search needs)
-    encrypt-requires
-    (λ c. search needs)
-    (λ c. search needs)
-    returns
-    returns-2)
+    (tie.spec (λ c κs. search needs) (λ c. search needs) encrypt-requires (λ c. search needs) (λ c. search needs) returns returns-2)

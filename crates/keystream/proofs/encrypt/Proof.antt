@@ -24,7 +24,8 @@ byteAt key nonce from bs k = bitXor (getD bs k 0) (keystream key nonce (from + k
 
 -- byte k of a turn, from the block that has it
 turned : (key nonce d : List ℕ) (from done r k : ℕ) → (from + done) % 64 + r ≤ 64 → k < r
-    → bitXor (getD (take r (drop done d)) k 0) (getD (chachaBlock key ((from + done) / 64) nonce) ((from + done) % 64 + k) 0) ≡ byteAt key nonce from d (done + k)
+    → bitXor (getD (take r (drop done d)) k 0) (getD (chachaBlock key ((from + done) / 64) nonce) ((from + done) % 64 + k) 0)
+    ≡ byteAt key nonce from d (done + k)
 turned key nonce d from done r k l h =
     let p : ℕ = from + done in
     rw (getD-take r (drop done d) k 0 h, getD-drop done d k 0, ← keystream-in key nonce (p / 64) (p % 64 + k) (from + (done + k)) (omega arith) (omega arith))
@@ -33,7 +34,8 @@ turned key nonce d from done r k l h =
 turn : (key nonce d : List ℕ) (from done r : ℕ) → done + r ≤ length d → (from + done) % 64 + r ≤ 64
     → let b = filled (byteAt key nonce from d) done d in
     let part = take (done + r - done) (drop done b) in
-    putMid done (done + r - done) b (xored (λ k. getD (chachaBlock key ((from + done) / 64) nonce) k 0) ((from + done) % 64) part) ≡ filled (byteAt key nonce from d) (done + r) d
+    putMid done (done + r - done) b (xored (λ k. getD (chachaBlock key ((from + done) / 64) nonce) k 0) ((from + done) % 64) part)
+    ≡ filled (byteAt key nonce from d) (done + r) d
 unfolding xored
 turn key nonce d from done r h l =
     let f : ℕ → ℕ = byteAt key nonce from d in
@@ -42,7 +44,8 @@ turn key nonce d from done r h l =
     rw (lent, filled-rest f done d, long) (filled-part f _ done r d (λ k. turned key nonce d from done r k l))
 
 abbrev Inv-loop : tie.InvT-loop
-Inv-loop key nonce from bytes₀ first done₀ bytes done = (done ≤ length bytes₀) × (length bytes ≡ length bytes₀) × (bytes ≡ filled (byteAt key nonce from bytes₀) done bytes₀)
+Inv-loop key nonce from bytes₀ first done₀ bytes done =
+    (done ≤ length bytes₀) × (length bytes ≡ length bytes₀) × (bytes ≡ filled (byteAt key nonce from bytes₀) done bytes₀)
 
 abbrev μ-loop : tie.MeasureT-loop
 μ-loop key nonce from bytes₀ first done₀ bytes done = length bytes₀ - done
@@ -62,8 +65,17 @@ loop-again c =
     let start = top .before .before .before .args in
     let key = now (start .key) in
     let nonce = now (start .nonce) in
-    let step = turn key nonce (now (start .bytes)) (start .from) (top .loop .done) (at .in-block .result) (omega (arith, at)) (omega (arith, at)) in
-    (search needs, search needs, rw (c .before .before .xor-bytes .ensures, at .before .block-from .ensures, top .before .first-state .ensures, block-counted key _ nonce, top .loop .inv .2) step)
+    let step = turn key nonce (now (start .bytes)) (start .from) (top .loop .done) (at .in-block .result) (omega (arith, at)) (omega (arith, at)) in (
+      search needs,
+      search needs,
+      rw (
+        c .before .before .xor-bytes .ensures,
+        at .before .block-from .ensures,
+        top .before .first-state .ensures,
+        block-counted key _ nonce,
+        top .loop .inv .2,
+      ) step,
+    )
 
 returns : tie.Need-returns Inv-loop μ-loop
 unfolding encrypted xored
@@ -74,22 +86,6 @@ returns c =
 pub encrypt-spec : {M : Type 1} → statement M
 encrypt-spec =
     tie.close
-    (tie.spec
-    Inv-loop
-    μ-loop
-    (λ c κs. search needs)
-    loop-holds
-    (λ c. search needs)
-    (λ c. search needs)
-    (λ c κs. search needs)
-    (λ c. search needs)
-    (λ c κs. search needs)
-    (λ c. search needs)
-    (λ c. search needs)
-    (λ c. search needs)
-    (λ c. search needs)
-    (λ c κs. search needs)
-    loop-less
-    loop-again
-    (λ c. search needs)
-    returns)
+    (tie.spec Inv-loop μ-loop (λ c κs. search needs) loop-holds (λ c. search needs) (λ c. search needs) (λ c κs. search needs)
+    (λ c. search needs) (λ c κs. search needs) (λ c. search needs) (λ c. search needs) (λ c. search needs) (λ c. search needs)
+    (λ c κs. search needs) loop-less loop-again (λ c. search needs) returns)

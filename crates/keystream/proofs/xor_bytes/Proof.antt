@@ -14,7 +14,8 @@ use Rattle.keystream.proofs.xor_bytes.Statement.{statement}
 use Rattle.keystream.proofs.xor_bytes.Tie as tie
 
 abbrev Inv-loop : tie.InvT-loop
-Inv-loop stream at bytes₀ i₀ i-end bytes i = (i-end ≡ length bytes₀) × (i ≤ i-end) × (length bytes ≡ length bytes₀) × (bytes ≡ filled (λ k. bitXor (getD bytes₀ k 0) (getD stream (at + k) 0)) i bytes₀)
+Inv-loop stream at bytes₀ i₀ i-end bytes i =
+    (i-end ≡ length bytes₀) × (i ≤ i-end) × (length bytes ≡ length bytes₀) × (bytes ≡ filled (λ k. bitXor (getD bytes₀ k 0) (getD stream (at + k) 0)) i bytes₀)
 
 abbrev μ-loop : tie.MeasureT-loop
 μ-loop stream at bytes₀ i₀ i-end bytes i = i-end - i
@@ -39,16 +40,5 @@ returns c =
 pub xor-bytes-spec : {M : Type 1} → statement M
 xor-bytes-spec =
     tie.close
-    (tie.spec
-    Inv-loop
-    μ-loop
-    loop-holds
-    (λ c. search needs)
-    (λ c. search needs)
-    (λ c. search needs)
-    (λ c. search needs)
-    (λ c. search needs)
-    (λ c. search needs)
-    loop-again
-    (λ c. search needs)
-    returns)
+    (tie.spec Inv-loop μ-loop loop-holds (λ c. search needs) (λ c. search needs) (λ c. search needs) (λ c. search needs) (λ c. search needs)
+    (λ c. search needs) loop-again (λ c. search needs) returns)

@@ -27,8 +27,11 @@ loop-again : tie.Need-loop-again Inv-loop μ-loop
 loop-again c =
     let l = c .before .before .before .loop in
     let votes = c .before .before .before .before .args .votes .now in
-    let h : l .j < blockCount = omega arith in
-    (omega arith, simp length-set (l .inv .1), rw (c .before .block .ensures .0) (gather-more codedBits (l .j) blockCount blockOf votes (l .soft) h (l .inv .2)))
+    let h : l .j < blockCount = omega arith in (
+      omega arith,
+      simp length-set (l .inv .1),
+      rw (c .before .block .ensures .0) (gather-more codedBits (l .j) blockCount blockOf votes (l .soft) h (l .inv .2)),
+    )
 
 returns : tie.Need-returns Inv-loop μ-loop
 unfolding gathered
@@ -40,18 +43,5 @@ returns c =
 pub sum-places-spec : {M : Type 1} → statement M
 sum-places-spec =
     tie.close
-    (tie.spec
-    Inv-loop
-    μ-loop
-    loop-holds
-    (λ c κs. search needs)
-    (λ c. search needs)
-    (λ c. search needs)
-    (λ c. search needs)
-    (λ c. search needs)
-    (λ c. search needs)
-    (λ c. search needs)
-    (λ c. search needs)
-    (λ c. search needs)
-    loop-again
-    returns)
+    (tie.spec Inv-loop μ-loop loop-holds (λ c κs. search needs) (λ c. search needs) (λ c. search needs) (λ c. search needs)
+    (λ c. search needs) (λ c. search needs) (λ c. search needs) (λ c. search needs) (λ c. search needs) loop-again returns)

@@ -23,6 +23,4 @@ returns c =
     (back .inverse .ensures ∙ ap inverseOf (marked .mark-block .ensures ∙ ap (markedBlock (args .u) (args .bit)) (transformed .forward .ensures)))
 
 pub block-change-spec : {M : Type 1} → statement M
-block-change-spec =
-    tie.close
-    (tie.spec (λ c κs. search needs) (λ c κs. search needs) (λ c κs. search needs) (λ c κs. search needs) returns)
+block-change-spec = tie.close (tie.spec (λ c κs. search needs) (λ c κs. search needs) (λ c κs. search needs) (λ c κs. search needs) returns)

@@ -13,7 +13,8 @@ use Rattle.plane.proofs.block_soft.Statement.{statement}
 use Rattle.plane.proofs.block_soft.Tie as tie
 
 abbrev Inv-loop : tie.InvT-loop
-Inv-loop plane matrix turned votes₀ group₀ votes group = (group ≤ 256) × (matrix ≡ grid dctEntry) × (turned ≡ grid dctTurned) × FirstVotes plane (4 * group) votes
+Inv-loop plane matrix turned votes₀ group₀ votes group =
+    (group ≤ 256) × (matrix ≡ grid dctEntry) × (turned ≡ grid dctTurned) × FirstVotes plane (4 * group) votes
 
 abbrev μ-loop : tie.MeasureT-loop
 μ-loop plane matrix turned votes₀ group₀ votes group = 256 - group
@@ -39,17 +40,5 @@ returns c =
 pub block-soft-spec : {M : Type 1} → statement M
 block-soft-spec =
     tie.close
-    (tie.spec
-    Inv-loop
-    μ-loop
-    (λ c κs. search needs)
-    (λ c κs. search needs)
-    loop-holds
-    (λ c. search needs)
-    (λ c κs. search needs)
-    (λ c. search needs)
-    (λ c κs. search needs)
-    (λ c. search needs)
-    (λ c. search needs)
-    loop-again
-    returns)
+    (tie.spec Inv-loop μ-loop (λ c κs. search needs) (λ c κs. search needs) loop-holds (λ c. search needs) (λ c κs. search needs)
+    (λ c. search needs) (λ c κs. search needs) (λ c. search needs) (λ c. search needs) loop-again returns)

@@ -14,7 +14,8 @@ use Rattle.plane.proofs.embed_bits.Statement.{statement}
 use Rattle.plane.proofs.embed_bits.Tie as tie
 
 abbrev Inv-loop : tie.InvT-loop
-Inv-loop plane₀ bits matrix turned group₀ plane group = (group ≤ 256) × (matrix ≡ grid dctEntry) × (turned ≡ grid dctTurned) × (length plane ≡ length plane₀) × (plane ≡ changedFrom bits 0 (4 * group) plane₀)
+Inv-loop plane₀ bits matrix turned group₀ plane group =
+    (group ≤ 256) × (matrix ≡ grid dctEntry) × (turned ≡ grid dctTurned) × (length plane ≡ length plane₀) × (plane ≡ changedFrom bits 0 (4 * group) plane₀)
 
 abbrev μ-loop : tie.MeasureT-loop
 μ-loop plane₀ bits matrix turned group₀ plane group = 256 - group
@@ -33,7 +34,8 @@ loop-again c =
       l .inv .1,
       l .inv .2,
       search needs,
-      done .embed-four .ensures ∙ (ap (changedFrom bits (4 * l .group) 4) (l .inv .4) ∙ rw (mul-add, mul-one) (changed-on bits (now (args .plane)) (4 * l .group) 4)),
+      done .embed-four .ensures
+          ∙ (ap (changedFrom bits (4 * l .group) 4) (l .inv .4) ∙ rw (mul-add, mul-one) (changed-on bits (now (args .plane)) (4 * l .group) 4)),
     )
 
 returns : tie.Need-returns Inv-loop μ-loop
@@ -46,17 +48,5 @@ returns c =
 pub embed-bits-spec : {M : Type 1} → statement M
 embed-bits-spec =
     tie.close
-    (tie.spec
-    Inv-loop
-    μ-loop
-    (λ c κs. search needs)
-    (λ c κs. search needs)
-    loop-holds
-    (λ c. search needs)
-    (λ c κs. search needs)
-    (λ c κs. search needs)
-    (λ c. search needs)
-    (λ c. search needs)
-    loop-again
-    (λ c. search needs)
-    returns)
+    (tie.spec Inv-loop μ-loop (λ c κs. search needs) (λ c κs. search needs) loop-holds (λ c. search needs) (λ c κs. search needs)
+    (λ c κs. search needs) (λ c. search needs) (λ c. search needs) loop-again (λ c. search needs) returns)

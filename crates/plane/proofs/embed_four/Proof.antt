@@ -39,7 +39,9 @@ loop-again c =
       search needs,
       search needs,
       stored .store-block .ensures
-          ∙ (ap (storedOf (l .plane) b) x ∙ (ap (λ (e : List Float). storedOf e b (changedBlock bits e b)) (l .inv .2) ∙ changed-more bits (now (start .args .plane)) (4 * start .args .group) (l .k))),
+          ∙ (ap (storedOf (l .plane) b) x
+          ∙ (ap (λ (e : List Float). storedOf e b (changedBlock bits e b)) (l .inv .2)
+          ∙ changed-more bits (now (start .args .plane)) (4 * start .args .group) (l .k))),
     )
 
 returns : tie.Need-returns Inv-loop μ-loop
@@ -51,19 +53,6 @@ returns c =
 pub embed-four-spec : {M : Type 1} → statement M
 embed-four-spec =
     tie.close
-    (tie.spec
-    Inv-loop
-    μ-loop
-    loop-holds
-    (λ c. search needs)
-    (λ c. search needs)
-    (λ c κs. search needs)
-    (λ c κs. search needs)
-    (λ c. search needs)
-    (λ c κs. search needs)
-    (λ c κs. search needs)
-    (λ c. search needs)
-    (λ c. search needs)
-    loop-again
-    (λ c. search needs)
+    (tie.spec Inv-loop μ-loop loop-holds (λ c. search needs) (λ c. search needs) (λ c κs. search needs) (λ c κs. search needs)
+    (λ c. search needs) (λ c κs. search needs) (λ c κs. search needs) (λ c. search needs) (λ c. search needs) loop-again (λ c. search needs)
     returns)

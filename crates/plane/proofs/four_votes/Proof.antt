@@ -30,7 +30,8 @@ loop-again c =
     let b = 4 * start .args .group + l .k in
     let K : l .k < 4 = omega arith in
     let v : c .vote .result ≡ planeVote (now (start .args .plane)) b =
-    c .vote .ensures ∙ ap (λ (u : List Float). blockVote u (loadOf (now (start .args .plane)) b)) (c .before .four .ensures ∙ four-of-group _ _ _ K (start .pre .0 .2)) in
+    c .vote .ensures ∙ ap (λ (u : List Float). blockVote u (loadOf (now (start .args .plane)) b))
+    (c .before .four .ensures ∙ four-of-group _ _ _ K (start .pre .0 .2)) in
     (omega arith, simp length-set (l .inv .1), rw (← add-assoc) (votes-more _ _ _ _ (omega arith) v (l .inv .2)))
 
 returns : tie.Need-returns Inv-loop μ-loop
@@ -42,18 +43,5 @@ returns c =
 pub four-votes-spec : {M : Type 1} → statement M
 four-votes-spec =
     tie.close
-    (tie.spec
-    Inv-loop
-    μ-loop
-    loop-holds
-    (λ c. search needs)
-    (λ c. search needs)
-    (λ c κs. search needs)
-    (λ c κs. search needs)
-    (λ c. search needs)
-    (λ c. search needs)
-    (λ c. search needs)
-    (λ c. search needs)
-    loop-again
-    (λ c. search needs)
-    returns)
+    (tie.spec Inv-loop μ-loop loop-holds (λ c. search needs) (λ c. search needs) (λ c κs. search needs) (λ c κs. search needs)
+    (λ c. search needs) (λ c. search needs) (λ c. search needs) (λ c. search needs) loop-again (λ c. search needs) returns)

@@ -12,10 +12,4 @@ returns c = rw (c .before .before .apply-cipher .ensures)
 pub cover-spec : {M : Type 1} → statement M
 cover-spec =
     tie.close
-    (tie.spec
-    (λ c. search needs)
-    (λ c. search needs)
-    (λ c. search needs)
-    (λ c κs. search needs)
-    (λ c. search needs)
-    returns)
+    (tie.spec (λ c. search needs) (λ c. search needs) (λ c. search needs) (λ c κs. search needs) (λ c. search needs) returns)

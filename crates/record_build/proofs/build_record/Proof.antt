@@ -15,7 +15,13 @@ unfolding builtOf
 returns-2 c =
     let test = c .before .before in
     let fits = test .before .before .fits2 in
-    rw (c .not-built2 .ensures, ← fits .ensures, not-false (fits .result) (test .before .if1 .left), ← test .counted .ensures, not-true (test .counted .result) (c .before .if2 .taken))
+    rw (
+      c .not-built2 .ensures,
+      ← fits .ensures,
+      not-false (fits .result) (test .before .if1 .left),
+      ← test .counted .ensures,
+      not-true (test .counted .result) (c .before .if2 .taken),
+    )
 
 seal-requires : tie.Need-seal-requires
 seal-requires c κs =
@@ -27,17 +33,16 @@ unfolding builtOf
 returns-3 c =
     let test = c .before .before in
     let fits = test .before .before .fits2 in
-    rw (c .seal .ensures, ← fits .ensures, not-false (fits .result) (test .before .if1 .left), ← test .counted .ensures, not-false (test .counted .result) (c .before .if2 .left))
+    rw (
+      c .seal .ensures,
+      ← fits .ensures,
+      not-false (fits .result) (test .before .if1 .left),
+      ← test .counted .ensures,
+      not-false (test .counted .result) (c .before .if2 .left),
+    )
 
 pub build-record-spec : {M : Type 1} → statement M
 build-record-spec =
     tie.close
-    (tie.spec
-    (λ c κs. search needs)
-    (λ c κs. search needs)
-    returns
-    (λ c κs. search needs)
-    (λ c κs. search needs)
-    returns-2
-    seal-requires
+    (tie.spec (λ c κs. search needs) (λ c κs. search needs) returns (λ c κs. search needs) (λ c κs. search needs) returns-2 seal-requires
     returns-3)

@@ -16,14 +16,16 @@ module _ (front text : List ℕ) (five : length front ≡ 5) (fits : length text
   sized : set (front ++ replicate 41 0) 5 (length text) ≡ (front ++ (length text ∷ [])) ++ replicate 40 0
   sized = set-at front 0 (replicate 40 0) (length text) 5 five ∙ sym (append-snoc front (length text) (replicate 40 0))
 
-  all-laid : paste (set (front ++ replicate 41 0) 5 (length text)) 6 text (length text) ≡ (front ++ (length text ∷ text ++ replicate (32 - length text) 0)) ++ replicate 8 0
+  all-laid : paste (set (front ++ replicate 41 0) 5 (length text)) 6 text (length text) ≡ (front ++ (length text ∷ text ++ replicate (32 - length text) 0))
+      ++ replicate 8 0
   all-laid =
       let more : 40 - length text ≡ 32 - length text + 8 = omega arith in
       let six : length (front ++ (length text ∷ [])) ≡ 6 = simp length-append (omega arith) in
       rw (sized, pasted-over (front ++ (length text ∷ [])) text 6 40 six (omega arith), more, ← replicate-append-replicate {A = ℕ} (32 - length text) 8 0)
       (simp append-assoc)
 
-begun : (c : tie.After-copy-bytes) → let front = headOf short (c .before .before .before .before .before .args .lock) in (length front ≡ 5) × (c .copy-bytes .last .1 .0 ≡ front ++ replicate 41 0)
+begun : (c : tie.After-copy-bytes) → let front = headOf short (c .before .before .before .before .before .args .lock) in
+    (length front ≡ 5) × (c .copy-bytes .last .1 .0 ≡ front ++ replicate 41 0)
 begun c =
     let made = c .before .before .before in
     let front = headOf short (made .before .before .args .lock) in
@@ -46,13 +48,5 @@ returns c =
 pub lay-spec : {M : Type 1} → statement M
 lay-spec =
     tie.close
-    (tie.spec
-    (λ c κs. search needs)
-    (λ c. search needs)
-    (λ c. search needs)
-    (λ c κs. search needs)
-    (λ c. search needs)
-    (λ c. search needs)
-    (λ c. search needs)
-    copy-bytes-requires-2
-    returns)
+    (tie.spec (λ c κs. search needs) (λ c. search needs) (λ c. search needs) (λ c κs. search needs) (λ c. search needs) (λ c. search needs)
+    (λ c. search needs) copy-bytes-requires-2 returns)

@@ -13,7 +13,8 @@ use Rattle.record_build.proofs.seal.Statement.{statement}
 use Rattle.record_build.proofs.seal.Tie as tie
 
 -- a CRC-32 put over the four bytes behind xs
-put-over : (xs ys zs : List ℕ) (k : ℕ) → length xs ≡ k → length ys ≡ 4 → withCrc (take k (xs ++ (ys ++ zs))) ++ drop (k + 4) (xs ++ (ys ++ zs)) ≡ withCrc xs ++ zs
+put-over : (xs ys zs : List ℕ) (k : ℕ) → length xs ≡ k → length ys ≡ 4
+    → withCrc (take k (xs ++ (ys ++ zs))) ++ drop (k + 4) (xs ++ (ys ++ zs)) ≡ withCrc xs ++ zs
 put-over xs ys zs k e f =
     rw (← e, take-at xs (ys ++ zs) (length xs) refl, drop-append-add xs (ys ++ zs) 4, drop-at ys zs 4 f)
 
@@ -31,18 +32,19 @@ returns c =
     let full : length inner ≡ 42 = omega (arith, length-summed (laidOut short text lock)) in
     let whole : outerAt short ≤ length inner = omega arith in
     let same : length (locked short lock inner) ≡ 42 = omega (arith, length-locked short lock inner whole) in
-    rw (c .before .put-crc2 .ensures, covered .lock-up .ensures, checked .put-crc .ensures, made .lay .ensures, put-over (laidOut short text lock) (replicate 4 0) (replicate 4 0) 38 size refl, locked-append short lock inner whole (replicate 4 0), put-over (locked short lock inner) (replicate 4 0) [] 42 same refl)
+    rw (
+      c .before .put-crc2 .ensures,
+      covered .lock-up .ensures,
+      checked .put-crc .ensures,
+      made .lay .ensures,
+      put-over (laidOut short text lock) (replicate 4 0) (replicate 4 0) 38 size refl,
+      locked-append short lock inner whole (replicate 4 0),
+      put-over (locked short lock inner) (replicate 4 0) [] 42 same refl,
+    )
     (append-nil (withCrc (locked short lock inner)))
 
 pub seal-spec : {M : Type 1} → statement M
 seal-spec =
     tie.close
-    (tie.spec
-    (λ c κs. search needs)
-    (λ c. search needs)
-    (λ c κs. search needs)
-    (λ c. search needs)
-    (λ c κs. search needs)
-    (λ c. search needs)
-    (λ c κs. search needs)
-    returns)
+    (tie.spec (λ c κs. search needs) (λ c. search needs) (λ c κs. search needs) (λ c. search needs) (λ c κs. search needs)
+    (λ c. search needs) (λ c κs. search needs) returns)

@@ -57,16 +57,5 @@ returns-2 c =
 pub inside-spec : {M : Type 1} → statement M
 inside-spec =
     tie.close
-    (tie.spec
-    (λ c κs. search needs)
-    (λ c κs. search needs)
-    returns
-    (λ c. search needs)
-    cast-length
-    add-end
-    (λ c. search needs)
-    (λ c. search needs)
-    part-copy-bytes-end
-    (λ c. search needs)
-    copy-bytes-requires
-    returns-2)
+    (tie.spec (λ c κs. search needs) (λ c κs. search needs) returns (λ c. search needs) cast-length add-end (λ c. search needs)
+    (λ c. search needs) part-copy-bytes-end (λ c. search needs) copy-bytes-requires returns-2)

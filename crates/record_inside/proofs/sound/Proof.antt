@@ -13,7 +13,8 @@ use Rattle.record_inside.proofs.sound.Statement.{statement}
 use Rattle.record_inside.proofs.sound.Tie as tie
 
 -- the length is right, and the padding was tested
-padded : (c : tie.After-all-zero) → let bs = now (c .before .before .before .before .before .args .bytes) in (leb (getD bs 5 0) 32 ≡ true) × (allZero (paddingIn short bs) ≡ c .all-zero .result)
+padded : (c : tie.After-all-zero) → let bs = now (c .before .before .before .before .before .args .bytes) in
+    (leb (getD bs 5 0) 32 ≡ true) × (allZero (paddingIn short bs) ≡ c .all-zero .result)
 unfolding paddingIn
 padded c =
     let bs = now (c .before .before .before .before .before .args .bytes) in
@@ -38,7 +39,13 @@ unfolding sound
 returns-3 c =
     let crc = c .before in
     let padding = padded (crc .before .before) in
-    rw (padding .0, padding .1, not-false (crc .before .before .all-zero .result) (crc .before .if2 .left), ← crc .intact .ensures, not-true (crc .intact .result) (c .if3 .taken))
+    rw (
+      padding .0,
+      padding .1,
+      not-false (crc .before .before .all-zero .result) (crc .before .if2 .left),
+      ← crc .intact .ensures,
+      not-true (crc .intact .result) (c .if3 .taken),
+    )
 
 returns-4 : tie.Need-returns-4
 unfolding sound textIn
@@ -48,25 +55,19 @@ returns-4 c =
     let padding = padded tested in
     let bs = now (tested .before .before .before .before .before .args .bytes) in
     let part : 6 + getD bs 5 0 - 6 ≡ getD bs 5 0 = omega arith in
-    rw (padding .0, padding .1, not-false (tested .all-zero .result) (crc .before .if2 .left), ← crc .intact .ensures, not-false (crc .intact .result) (c .before .before .if3 .left), c .well-formed .ensures, part)
+    rw (
+      padding .0,
+      padding .1,
+      not-false (tested .all-zero .result) (crc .before .if2 .left),
+      ← crc .intact .ensures,
+      not-false (crc .intact .result) (c .before .before .if3 .left),
+      c .well-formed .ensures,
+      part,
+    )
 
 pub sound-spec : {M : Type 1} → statement M
 sound-spec =
     tie.close
-    (tie.spec
-    (λ c. search needs)
-    cast-length
-    returns
-    (λ c. search needs)
-    (λ c. search needs)
-    (λ c. search needs)
-    (λ c. search needs)
-    (λ c κs. search needs)
-    returns-2
-    (λ c κs. search needs)
-    returns-3
-    (λ c. search needs)
-    (λ c. search needs)
-    (λ c. search needs)
-    (λ c κs. search needs)
-    returns-4)
+    (tie.spec (λ c. search needs) cast-length returns (λ c. search needs) (λ c. search needs) (λ c. search needs) (λ c. search needs)
+    (λ c κs. search needs) returns-2 (λ c κs. search needs) returns-3 (λ c. search needs) (λ c. search needs) (λ c. search needs)
+    (λ c κs. search needs) returns-4)

@@ -34,7 +34,16 @@ returns-4 c =
     let asked = c .before .before .before in
     let key = asked .before .before in
     let mode = key .before .before in
-    rw (c .not-read4 .ensures, c .before .number-at .ensures, whole (mode .before), mode .if2 .left, ← key .before .needless .ensures, key .if3 .left, ← asked .before .missing .ensures, asked .if4 .taken)
+    rw (
+      c .not-read4 .ensures,
+      c .before .number-at .ensures,
+      whole (mode .before),
+      mode .if2 .left,
+      ← key .before .needless .ensures,
+      key .if3 .left,
+      ← asked .before .missing .ensures,
+      asked .if4 .taken,
+    )
 
 returns-5 : tie.Need-returns-5
 unfolding parsedOf
@@ -43,8 +52,18 @@ returns-5 c =
     let asked = plain .before in
     let key = asked .before .before in
     let mode = key .before .before in
-    let none : mode .before .before .before .before .before .args .key .given ≡ false = rw (plain .if5 .taken) at (sym (key .before .needless .ensures) ∙ key .if3 .left) in
-    rw (c .inside .ensures, whole (mode .before), mode .if2 .left, ← key .before .needless .ensures, key .if3 .left, ← asked .before .missing .ensures, asked .if4 .left, none)
+    let none : mode .before .before .before .before .before .args .key .given ≡ false =
+    rw (plain .if5 .taken) at (sym (key .before .needless .ensures) ∙ key .if3 .left) in
+    rw (
+      c .inside .ensures,
+      whole (mode .before),
+      mode .if2 .left,
+      ← key .before .needless .ensures,
+      key .if3 .left,
+      ← asked .before .missing .ensures,
+      asked .if4 .left,
+      none,
+    )
 
 returns-6 : tie.Need-returns-6
 unfolding parsedOf
@@ -58,29 +77,21 @@ returns-6 c =
     let given = start .args .key .given in
     let known = not-false (eqb (getD (now (start .args .bytes)) 0 0) 0x32) (rw (ne-eqb _ _ (keyed .if5 .left)) at (mode .if2 .left)) in
     let one : given ≡ true = not-false given (rw known at (sym (asked .before .missing .ensures) ∙ asked .if4 .left)) in
-    rw (c .inside2 .ensures, opened .cover .ensures, whole (mode .before), mode .if2 .left, ← key .before .needless .ensures, key .if3 .left, ← asked .before .missing .ensures, asked .if4 .left, one)
+    rw (
+      c .inside2 .ensures,
+      opened .cover .ensures,
+      whole (mode .before),
+      mode .if2 .left,
+      ← key .before .needless .ensures,
+      key .if3 .left,
+      ← asked .before .missing .ensures,
+      asked .if4 .left,
+      one,
+    )
 
 pub parse-record-spec : {M : Type 1} → statement M
 parse-record-spec =
     tie.close
-    (tie.spec
-    (λ c. search needs)
-    (λ c κs. search needs)
-    (λ c κs. search needs)
-    returns
-    (λ c κs. search needs)
-    returns-2
-    (λ c κs. search needs)
-    (λ c κs. search needs)
-    returns-3
-    (λ c κs. search needs)
-    (λ c κs. search needs)
-    (λ c κs. search needs)
-    returns-4
-    (λ c κs. search needs)
-    returns-5
-    (λ c. search needs)
-    (λ c κs. search needs)
-    (λ c. search needs)
-    (λ c κs. search needs)
-    returns-6)
+    (tie.spec (λ c. search needs) (λ c κs. search needs) (λ c κs. search needs) returns (λ c κs. search needs) returns-2
+    (λ c κs. search needs) (λ c κs. search needs) returns-3 (λ c κs. search needs) (λ c κs. search needs) (λ c κs. search needs) returns-4
+    (λ c κs. search needs) returns-5 (λ c. search needs) (λ c κs. search needs) (λ c. search needs) (λ c κs. search needs) returns-6)

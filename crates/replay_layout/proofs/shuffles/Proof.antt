@@ -15,16 +15,5 @@ shuffled-requires c κs = simp length-take (search needs)
 pub shuffles-spec : {M : Type 1} → statement M
 shuffles-spec =
     tie.close
-    (tie.spec
-    (λ c. search needs)
-    (λ c. search needs)
-    (λ c κs. search needs)
-    (λ c. search needs)
-    (λ c κs. search needs)
-    (λ c. search needs)
-    (λ c. search needs)
-    (λ c. search needs)
-    slice-aggregate-shuffled
-    shuffled-requires
-    (λ c. search needs)
-    (λ c. search needs))
+    (tie.spec (λ c. search needs) (λ c. search needs) (λ c κs. search needs) (λ c. search needs) (λ c κs. search needs) (λ c. search needs)
+    (λ c. search needs) (λ c. search needs) slice-aggregate-shuffled shuffled-requires (λ c. search needs) (λ c. search needs))

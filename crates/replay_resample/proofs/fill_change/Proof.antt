@@ -15,7 +15,8 @@ abbrev μ-loop : tie.MeasureT-loop
 μ-loop raw values change₀ q₀ q-end change q = q-end - q
 
 -- the place of a value in the list
-below : (c : tie.In-loop Inv-loop μ-loop) → c .before .loop .q % c .before .before .before .before .args .values < c .before .before .before .before .args .values
+below : (c : tie.In-loop Inv-loop μ-loop)
+    → c .before .loop .q % c .before .before .before .before .args .values < c .before .before .before .before .args .values
 below c = mod-lt (c .before .loop .q) (c .before .before .before .before .pre .0)
 
 mul-word : tie.Need-mul-word Inv-loop μ-loop
@@ -27,18 +28,5 @@ word-requires c κs = omega (arith, below c)
 pub fill-change-spec : {M : Type 1} → statement M
 fill-change-spec =
     tie.close
-    (tie.spec
-    Inv-loop
-    μ-loop
-    (λ c. search needs)
-    (λ c. search needs)
-    mul-word
-    word-requires
-    (λ c κs. search needs)
-    (λ c. search needs)
-    (λ c. search needs)
-    (λ c. search needs)
-    (λ c. search needs)
-    (λ c. search needs)
-    (λ c. search needs)
-    (λ c. search needs))
+    (tie.spec Inv-loop μ-loop (λ c. search needs) (λ c. search needs) mul-word word-requires (λ c κs. search needs) (λ c. search needs)
+    (λ c. search needs) (λ c. search needs) (λ c. search needs) (λ c. search needs) (λ c. search needs) (λ c. search needs))

@@ -19,15 +19,5 @@ shared-slice-read-samples c = mod-lt _ (c .before .before .before .pre)
 pub fill-samples-spec : {M : Type 1} → statement M
 fill-samples-spec =
     tie.close
-    (tie.spec
-    Inv-loop
-    μ-loop
-    (λ c. search needs)
-    (λ c. search needs)
-    shared-slice-read-samples
-    (λ c. search needs)
-    (λ c. search needs)
-    (λ c. search needs)
-    (λ c. search needs)
-    (λ c. search needs)
-    (λ c. search needs))
+    (tie.spec Inv-loop μ-loop (λ c. search needs) (λ c. search needs) shared-slice-read-samples (λ c. search needs) (λ c. search needs)
+    (λ c. search needs) (λ c. search needs) (λ c. search needs) (λ c. search needs))

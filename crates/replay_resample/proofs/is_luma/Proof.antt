@@ -17,30 +17,15 @@ made-luma-requires c κs =
     let channels = c .before .before .before .before .before .before .before .before .before .before .wide .result in
     let row = c .before .before .before .before .before .before .samples-in in
     let size : length (take (a .to / 4) (c .before .before .before .luma-room .result)) ≡ a .to / 4 = length-take-le _ _ (search needs) in
-    let long : length (take (1 + row .result - 1) (drop 1 (a .raw .now))) ≡ 1 + row .result - 1 = length-take-le _ _ (omega (arith, length-drop 1 (a .raw .now))) in
+    let long : length (take (1 + row .result - 1) (drop 1 (a .raw .now))) ≡ 1 + row .result - 1 =
+    length-take-le _ _ (omega (arith, length-drop 1 (a .raw .now))) in
     let full : 1 + row .result - 1 ≡ a .to / 4 * channels = omega (arith, row .ensures .0) in
     (search needs, search needs, long ∙ (full ∙ ap (λ n. n * channels) (sym size)), omega (arith, size), search needs)
 
 pub is-luma-spec : {M : Type 1} → statement M
 is-luma-spec =
     tie.close
-    (tie.spec
-    (λ c. search needs)
-    (λ c κs. search needs)
-    (λ c. search needs)
-    (λ c. search needs)
-    (λ c. search needs)
-    (λ c κs. search needs)
-    (λ c. search needs)
-    (λ c. search needs)
-    (λ c. search needs)
-    (λ c κs. search needs)
-    (λ c. search needs)
-    (λ c. search needs)
-    (λ c. search needs)
-    (λ c. search needs)
-    (λ c. search needs)
-    slice-aggregate-made-luma
-    made-luma-requires
-    (λ c. search needs)
+    (tie.spec (λ c. search needs) (λ c κs. search needs) (λ c. search needs) (λ c. search needs) (λ c. search needs) (λ c κs. search needs)
+    (λ c. search needs) (λ c. search needs) (λ c. search needs) (λ c κs. search needs) (λ c. search needs) (λ c. search needs)
+    (λ c. search needs) (λ c. search needs) (λ c. search needs) slice-aggregate-made-luma made-luma-requires (λ c. search needs)
     (λ c. search needs))

@@ -7,7 +7,8 @@ use Rattle.replay_resilient.proofs.replay.Statement.{statement}
 use Rattle.replay_resilient.proofs.replay.Tie as tie
 
 abbrev Inv-loop : tie.InvT-loop
-Inv-loop text samples₀ work₀ tally₀ at₀ samples work tally at = (at ≤ length text) × (length samples₀ ≡ 1048576) × (length samples ≡ length samples₀) × (length work₀ ≤ 1048576) × (length work ≡ length work₀)
+Inv-loop text samples₀ work₀ tally₀ at₀ samples work tally at =
+    (at ≤ length text) × (length samples₀ ≡ 1048576) × (length samples ≡ length samples₀) × (length work₀ ≤ 1048576) × (length work ≡ length work₀)
 
 abbrev μ-loop : tie.MeasureT-loop
 μ-loop text samples₀ work₀ tally₀ at₀ samples work tally at = length text - at
@@ -15,18 +16,6 @@ abbrev μ-loop : tie.MeasureT-loop
 pub replay-spec : {M : Type 1} → statement M
 replay-spec =
     tie.close
-    (tie.spec
-    Inv-loop
-    μ-loop
-    (λ c κs. search needs)
-    (λ c. search needs)
-    (λ c κs. search needs)
-    (λ c κs. search needs)
-    (λ c κs. search needs)
-    (λ c. search needs)
-    (λ c. search needs)
-    (λ c. search needs)
-    (λ c. search needs)
-    (λ c. search needs)
-    (λ c. search needs)
-    (λ c. search needs))
+    (tie.spec Inv-loop μ-loop (λ c κs. search needs) (λ c. search needs) (λ c κs. search needs) (λ c κs. search needs)
+    (λ c κs. search needs) (λ c. search needs) (λ c. search needs) (λ c. search needs) (λ c. search needs) (λ c. search needs)
+    (λ c. search needs) (λ c. search needs))

@@ -44,23 +44,12 @@ returns c =
     let counted = spaced .before .before .before .before in
     let named = counted .before .before .before in
     let start = named .before .before .before in
-    puts-line (omega (arith, number-short start, given-short start)) (named .bytes2 .ensures) (counted .decimal .ensures) (spaced .bytes7 .ensures) (shown .decimal2 .ensures) (c .before .bytes12 .ensures)
+    puts-line (omega (arith, number-short start, given-short start)) (named .bytes2 .ensures) (counted .decimal .ensures) (spaced .bytes7 .ensures)
+    (shown .decimal2 .ensures) (c .before .bytes12 .ensures)
 
 pub refused-line-spec : {M : Type 1} → statement M
 refused-line-spec =
     tie.close
-    (tie.spec
-    (λ c. search needs)
-    (λ c. search needs)
-    (λ c κs. search needs)
-    (λ c. search needs)
-    decimal-requires
-    (λ c. search needs)
-    (λ c. search needs)
-    bytes-requires-2
-    (λ c. search needs)
-    decimal-requires-2
-    (λ c. search needs)
-    (λ c. search needs)
-    bytes-requires-3
+    (tie.spec (λ c. search needs) (λ c. search needs) (λ c κs. search needs) (λ c. search needs) decimal-requires (λ c. search needs)
+    (λ c. search needs) bytes-requires-2 (λ c. search needs) decimal-requires-2 (λ c. search needs) (λ c. search needs) bytes-requires-3
     returns)

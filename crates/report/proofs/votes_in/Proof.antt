@@ -20,7 +20,8 @@ loop-holds c = fills-none _ _ _ refl
 
 loop-again : tie.Need-loop-again Inv-loop μ-loop
 unfolding voteFrom word
-loop-again c = fills-more (c .before .before .before .before .before .before .before .loop .inv) (omega arith) (rw (c .f32-from-bits .ensures, c .before .little-endian .ensures))
+loop-again c = fills-more (c .before .before .before .before .before .before .before .loop .inv) (omega arith)
+    (rw (c .f32-from-bits .ensures, c .before .little-endian .ensures))
 
 returns : tie.Need-returns Inv-loop μ-loop
 returns c = fills-all (c .before .loop .inv) (omega arith)
@@ -28,23 +29,6 @@ returns c = fills-all (c .before .loop .inv) (omega arith)
 pub votes-in-spec : {M : Type 1} → statement M
 votes-in-spec =
     tie.close
-    (tie.spec
-    Inv-loop
-    μ-loop
-    loop-holds
-    (λ c. search needs)
-    (λ c. search needs)
-    (λ c. search needs)
-    (λ c. search needs)
-    (λ c. search needs)
-    (λ c. search needs)
-    (λ c. search needs)
-    (λ c. search needs)
-    (λ c κs. search needs)
-    (λ c κs. search needs)
-    (λ c. search needs)
-    (λ c. search needs)
-    (λ c. search needs)
-    (λ c. search needs)
-    loop-again
-    returns)
+    (tie.spec Inv-loop μ-loop loop-holds (λ c. search needs) (λ c. search needs) (λ c. search needs) (λ c. search needs) (λ c. search needs)
+    (λ c. search needs) (λ c. search needs) (λ c. search needs) (λ c κs. search needs) (λ c κs. search needs) (λ c. search needs)
+    (λ c. search needs) (λ c. search needs) (λ c. search needs) loop-again returns)

@@ -24,7 +24,8 @@ part-add-row-start : tie.Need-part-add-row-start
 part-add-row-start c = omega arith
 
 part-add-row-end : tie.Need-part-add-row-end
-part-add-row-end c = let kept = c .before .before .before .before .before .before .before .before .keep .ensures in omega (arith, kept .1 .0, kept .0 .kept .rows-room)
+part-add-row-end c = let kept = c .before .before .before .before .before .before .before .before .keep .ensures in
+    omega (arith, kept .1 .0, kept .0 .kept .rows-room)
 
 add-row-requires : tie.Need-add-row-requires
 add-row-requires c κs =
@@ -34,13 +35,16 @@ add-row-requires c κs =
     p .pre .2 ∙ sym (rw (part-size (kept .result) 256, kept .ensures .1 .1) (narrow-length (a .width) (a .channels) (a .samples .now) (a .i)))
 
 same-length : tie.Need-same-length
-same-length c = c .before .before .before .before .before .before .before .before .before .before .before .before .keep .ensures .0 .line-room ∙ sym (c .before .before .before .before .before .before .before .before .before .before .before .before .before .before .before .before .before .before .before .before .before .before .before .before .before .pre .0 .line-room)
+same-length c = c .before .before .before .before .before .before .before .before .before .before .before .before .keep .ensures .0 .line-room
+    ∙ sym (c .before .before .before .before .before .before .before .before .before .before .before .before .before .before .before .before .before .before .before .before .before .before .before .before .before .pre .0 .line-room)
 
 same-length-2 : tie.Need-same-length-2
-same-length-2 c = c .before .before .before .before .before .before .before .before .before .before .before .before .keep .ensures .0 .kept .rows-room ∙ sym (c .before .before .before .before .before .before .before .before .before .before .before .before .before .before .before .before .before .before .before .before .before .before .before .before .before .pre .0 .kept .rows-room)
+same-length-2 c = c .before .before .before .before .before .before .before .before .before .before .before .before .keep .ensures .0 .kept .rows-room
+    ∙ sym (c .before .before .before .before .before .before .before .before .before .before .before .before .before .before .before .before .before .before .before .before .before .before .before .before .before .pre .0 .kept .rows-room)
 
 same-length-3 : tie.Need-same-length-3
-same-length-3 c = c .before .before .before .before .before .before .before .before .before .before .before .before .keep .ensures .0 .kept .held-room ∙ sym (c .before .before .before .before .before .before .before .before .before .before .before .before .before .before .before .before .before .before .before .before .before .before .before .before .before .pre .0 .kept .held-room)
+same-length-3 c = c .before .before .before .before .before .before .before .before .before .before .before .before .keep .ensures .0 .kept .held-room
+    ∙ sym (c .before .before .before .before .before .before .before .before .before .before .before .before .before .before .before .before .before .before .before .before .before .before .before .before .before .pre .0 .kept .held-room)
 
 same-length-4 : tie.Need-same-length-4
 same-length-4 c = ap length (c .before .before .add-row .ensures) ∙ length-tab _ _
@@ -54,16 +58,5 @@ returns c =
 pub add-picture-row-spec : {M : Type 1} → statement M
 add-picture-row-spec =
     tie.close
-    (tie.spec
-    keep-requires
-    add-e
-    mul-add-row
-    sub-add-row
-    part-add-row-start
-    part-add-row-end
-    add-row-requires
-    same-length
-    same-length-2
-    same-length-3
-    same-length-4
-    returns)
+    (tie.spec keep-requires add-e mul-add-row sub-add-row part-add-row-start part-add-row-end add-row-requires same-length same-length-2
+    same-length-3 same-length-4 returns)

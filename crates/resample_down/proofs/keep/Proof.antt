@@ -22,8 +22,14 @@ returns c =
     let n = p .pre .0 in
     let g = a .i / 4 in
     let e : getD (a .held .now) (g % 16) 0 ≡ suc g = c .if1 .taken ∙ add-one g in
-    let four = n .kept .is (g % 16) g (omega arith) e in
-    (n, (omega arith, row-among (a .width) (a .height) (a .channels) (a .samples .now) (a .rows .now) (a .i) (g % 16 * 1024) (p .pre .1) (omega (arith, n .kept .rows-room)) four))
+    let four = n .kept .is (g % 16) g (omega arith) e in (
+      n,
+      (
+        omega arith,
+        row-among (a .width) (a .height) (a .channels) (a .samples .now) (a .rows .now) (a .i) (g % 16 * 1024) (p .pre .1)
+            (omega (arith, n .kept .rows-room)) four,
+      ),
+    )
 
 narrow-four-requires : tie.Need-narrow-four-requires
 narrow-four-requires c κs =
@@ -51,32 +57,15 @@ returns-2 c =
     let here = kept-here four 1024 1024 16 (a .held .now) (a .rows .now) (n .kept) slot g (omega arith) v long is in
     let rows = onPart (slot * 1024) 1024 (λ (x : List Float). v) (a .rows .now) in
     let row = row-among (a .width) (a .height) (a .channels) (a .samples .now) rows (a .i) (slot * 1024) (p .pre .1) (omega (arith, new .rows-room)) here in
-    let line = line-kept (a .width) (a .height) (a .channels) (a .samples .now) g (a .line .now) (made .last .1 .1 .1 .1 .1 .1 .1 .1 .1 .0) (omega (arith, n .line-room, n .sized .width-most)) (made .ensures .0) ∙ n .line-room in
-    rw (part-size (slot * 1024) 1024) (record { sized = n .sized; products = n .products; tables = n .tables; line-room = line; kept = new }, (omega arith, row))
+    let line = line-kept (a .width) (a .height) (a .channels) (a .samples .now) g (a .line .now) (made .last .1 .1 .1 .1 .1 .1 .1 .1 .1 .0)
+    (omega (arith, n .line-room, n .sized .width-most)) (made .ensures .0) ∙ n .line-room in
+    rw (part-size (slot * 1024) 1024)
+    (record { sized = n .sized; products = n .products; tables = n .tables; line-room = line; kept = new }, (omega arith, row))
 
 pub keep-spec : {M : Type 1} → statement M
 keep-spec =
     tie.close
-    (tie.spec
-    (λ c. search needs)
-    (λ c. search needs)
-    (λ c. search needs)
-    (λ c. search needs)
-    (λ c. search needs)
-    (λ c. search needs)
-    (λ c. search needs)
-    returns
-    (λ c. search needs)
-    (λ c. search needs)
-    (λ c. search needs)
-    (λ c. search needs)
-    (λ c. search needs)
-    narrow-four-requires
-    (λ c. search needs)
-    (λ c. search needs)
-    (λ c. search needs)
-    (λ c. search needs)
-    (λ c. search needs)
-    (λ c. search needs)
-    (λ c. search needs)
-    returns-2)
+    (tie.spec (λ c. search needs) (λ c. search needs) (λ c. search needs) (λ c. search needs) (λ c. search needs) (λ c. search needs)
+    (λ c. search needs) returns (λ c. search needs) (λ c. search needs) (λ c. search needs) (λ c. search needs) (λ c. search needs)
+    narrow-four-requires (λ c. search needs) (λ c. search needs) (λ c. search needs) (λ c. search needs) (λ c. search needs)
+    (λ c. search needs) (λ c. search needs) returns-2)

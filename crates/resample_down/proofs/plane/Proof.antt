@@ -13,7 +13,8 @@ use Rattle.resample_down.proofs.plane.Statement.{statement}
 use Rattle.resample_down.proofs.plane.Tie as tie
 
 taps-requires : tie.Need-taps-requires
-taps-requires c κs = let p = c .before .before .before .before .before .before .before .before in omega (arith, p .pre .0 .wide, p .pre .0 .width-most, room-down (p .args .width) (p .pre .0 .width-most))
+taps-requires c κs = let p = c .before .before .before .before .before .before .before .before in
+    omega (arith, p .pre .0 .wide, p .pre .0 .width-most, room-down (p .args .width) (p .pre .0 .width-most))
 
 plane-rows-requires : tie.Need-plane-rows-requires
 unfolding ofBits
@@ -24,28 +25,26 @@ plane-rows-requires c κs =
     let made = c .before .before .before .before .before .before .before .before .before .before .before .taps in
     let room = room-down (a .width) (s .width-most) in
     let tables =
-    tables-made (a .width) 256 (replicate 257 0) (made .last .1 .1 .0) (replicate 16384 0) (made .last .1 .1 .1 .0) (replicate 16384 zero+) (made .last .1 .1 .1 .1 .0) (s .wide) (omega (arith, length-replicate {A = ℕ} 257 0))
-    (omega (arith, length-replicate {A = ℕ} 16384 0, room)) (omega (arith, length-replicate 16384 zero+, room)) (made .ensures .0) (made .ensures .1 .0) (made .ensures .1 .1) in
-    let kept = kept-empty (narrowFour (a .width) (a .height) (a .channels) (a .samples .now)) 1024 1024 16 (replicate 16384 zero+) (length-replicate 16384 zero+) (le-refl 1024) in
-    (record { sized = s; products = c .before .before .before .before .before .before .before .before .before .before .before .before .before .before .before .before .shares .ensures; tables = tables; line-room = length-replicate 32768 zero+; kept = kept }, p .pre .1)
+    tables-made (a .width) 256 (replicate 257 0) (made .last .1 .1 .0) (replicate 16384 0) (made .last .1 .1 .1 .0) (replicate 16384 zero+)
+    (made .last .1 .1 .1 .1 .0) (s .wide) (omega (arith, length-replicate {A = ℕ} 257 0))
+    (omega (arith, length-replicate {A = ℕ} 16384 0, room)) (omega (arith, length-replicate 16384 zero+, room)) (made .ensures .0) (made .ensures .1 .0)
+    (made .ensures .1 .1) in
+    let kept = kept-empty (narrowFour (a .width) (a .height) (a .channels) (a .samples .now)) 1024 1024 16 (replicate 16384 zero+)
+    (length-replicate 16384 zero+) (le-refl 1024) in (
+      record {
+        sized = s;
+        products =
+            c .before .before .before .before .before .before .before .before .before .before .before .before .before .before .before .before .shares .ensures;
+        tables = tables;
+        line-room = length-replicate 32768 zero+;
+        kept = kept;
+      },
+      p .pre .1,
+    )
 
 pub plane-spec : {M : Type 1} → statement M
 plane-spec =
     tie.close
-    (tie.spec
-    (λ c. search needs)
-    (λ c κs. search needs)
-    (λ c. search needs)
-    (λ c. search needs)
-    (λ c. search needs)
-    taps-requires
-    (λ c. search needs)
-    (λ c. search needs)
-    (λ c. search needs)
-    (λ c. search needs)
-    (λ c. search needs)
-    (λ c. search needs)
-    (λ c. search needs)
-    plane-rows-requires
-    (λ c. search needs)
-    (λ c. search needs))
+    (tie.spec (λ c. search needs) (λ c κs. search needs) (λ c. search needs) (λ c. search needs) (λ c. search needs) taps-requires
+    (λ c. search needs) (λ c. search needs) (λ c. search needs) (λ c. search needs) (λ c. search needs) (λ c. search needs)
+    (λ c. search needs) plane-rows-requires (λ c. search needs) (λ c. search needs))

@@ -17,38 +17,43 @@ unfolding ofBits
 add-window-requires c κs =
     let p = c .before .before .before .before .before .before .before .before .before .before .before .before .before .before .before .before .before .before in
     let a = p .args in
-    let made = c .before .before .before .before .new in
-    (p .pre .0, window-small (made .result) (a .height) 256 (a .y) (made .ensures), c .before .before .before .before .before .before .before .zero-floats .ensures ∙ (ap (λ n. replicate n zero+) (p .pre .1) ∙ sumRows-none 256 (narrowRow (a .width) (a .channels) (a .samples .now))))
+    let made = c .before .before .before .before .new in (
+      p .pre .0,
+      window-small (made .result) (a .height) 256 (a .y) (made .ensures),
+      c .before .before .before .before .before .before .before .zero-floats .ensures
+          ∙ (ap (λ n. replicate n zero+) (p .pre .1) ∙ sumRows-none 256 (narrowRow (a .width) (a .channels) (a .samples .now))),
+    )
 
 same-length : tie.Need-same-length
-same-length c = c .before .before .before .before .before .before .before .before .add-window .ensures .0 .line-room ∙ sym (c .before .before .before .before .before .before .before .before .before .before .before .before .before .before .before .before .before .before .before .before .before .before .before .before .before .before .before .pre .0 .line-room)
+same-length c = c .before .before .before .before .before .before .before .before .add-window .ensures .0 .line-room
+    ∙ sym (c .before .before .before .before .before .before .before .before .before .before .before .before .before .before .before .before .before .before .before .before .before .before .before .before .before .before .before .pre .0 .line-room)
 
 same-length-2 : tie.Need-same-length-2
-same-length-2 c = c .before .before .before .before .before .before .before .before .add-window .ensures .0 .kept .rows-room ∙ sym (c .before .before .before .before .before .before .before .before .before .before .before .before .before .before .before .before .before .before .before .before .before .before .before .before .before .before .before .pre .0 .kept .rows-room)
+same-length-2 c = c .before .before .before .before .before .before .before .before .add-window .ensures .0 .kept .rows-room
+    ∙ sym (c .before .before .before .before .before .before .before .before .before .before .before .before .before .before .before .before .before .before .before .before .before .before .before .before .before .before .before .pre .0 .kept .rows-room)
 
 same-length-3 : tie.Need-same-length-3
-same-length-3 c = c .before .before .before .before .before .before .before .before .add-window .ensures .0 .kept .held-room ∙ sym (c .before .before .before .before .before .before .before .before .before .before .before .before .before .before .before .before .before .before .before .before .before .before .before .before .before .before .before .pre .0 .kept .held-room)
+same-length-3 c = c .before .before .before .before .before .before .before .before .add-window .ensures .0 .kept .held-room
+    ∙ sym (c .before .before .before .before .before .before .before .before .before .before .before .before .before .before .before .before .before .before .before .before .before .before .before .before .before .before .before .pre .0 .kept .held-room)
 
 same-length-4 : tie.Need-same-length-4
-same-length-4 c = ap length (c .before .before .before .before .before .before .before .before .add-window .ensures .1) ∙ (length-sumRows 256 _ _ ∙ sym (c .before .before .before .before .before .before .before .before .before .before .before .before .before .before .before .before .before .before .before .before .before .before .before .before .before .before .before .pre .1))
+same-length-4 c = ap length (c .before .before .before .before .before .before .before .before .add-window .ensures .1)
+    ∙ (length-sumRows 256 _ _
+    ∙ sym (c .before .before .before .before .before .before .before .before .before .before .before .before .before .before .before .before .before .before .before .before .before .before .before .before .before .before .before .pre .1))
 
 returns : tie.Need-returns
 returns c =
     let a = c .before .before .before .before .before .before .before .before .before .before .before .before .before .before .before .before .before .before .before .before .before .before .before .before .before .before .before .args in
     let made = c .before .before .before .before .before .before .before .before .before .before .before .before .before .new in
     let added = c .before .before .before .before .before .before .before .before .add-window .ensures in
-    let row = narrowRow (a .width) (a .channels) (a .samples .now) in
-    (added .0, added .1 ∙ (ap (sumRows 256 row) (taps-of (made .result) (a .height) 256 (a .y) (made .ensures)) ∙ plane-of (a .width) (a .height) (a .channels) (a .samples .now) (a .y)))
+    let row = narrowRow (a .width) (a .channels) (a .samples .now) in (
+      added .0,
+      added .1 ∙ (ap (sumRows 256 row) (taps-of (made .result) (a .height) 256 (a .y) (made .ensures))
+          ∙ plane-of (a .width) (a .height) (a .channels) (a .samples .now) (a .y)),
+    )
 
 pub plane-row-spec : {M : Type 1} → statement M
 plane-row-spec =
     tie.close
-    (tie.spec
-    (λ c κs. search needs)
-    (λ c κs. search needs)
-    add-window-requires
-    same-length
-    same-length-2
-    same-length-3
-    same-length-4
+    (tie.spec (λ c κs. search needs) (λ c κs. search needs) add-window-requires same-length same-length-2 same-length-3 same-length-4
     returns)

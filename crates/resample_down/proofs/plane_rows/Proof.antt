@@ -20,7 +20,8 @@ use Rattle.resample_down.proofs.plane_rows.Tie as tie
 
 abbrev Inv-loop : tie.InvT-loop
 Inv-loop width height channels samples shares offsets index weight line₀ rows₀ held₀ plane₀ y₀ line rows held plane y =
-    (y ≤ 256) × Narrowing width height channels samples shares offsets index weight line held rows × (take (y * 256) plane ≡ lines (planeRow width height channels samples) y) × (length plane ≡ length plane₀)
+    (y ≤ 256) × Narrowing width height channels samples shares offsets index weight line held rows
+    × (take (y * 256) plane ≡ lines (planeRow width height channels samples) y) × (length plane ≡ length plane₀)
 
 abbrev μ-loop : tie.MeasureT-loop
 μ-loop width height channels samples shares offsets index weight line₀ rows₀ held₀ plane₀ y₀ line rows held plane y = 256 - y
@@ -31,7 +32,12 @@ loop-holds c = (omega arith, c .before .before .before .before .before .before .
 
 -- in a turn the row ends within the plane
 room : (c : tie.In-loop Inv-loop μ-loop) → c .before .loop .y * 256 + 256 ≤ length (c .before .loop .plane)
-room c = omega (arith, c .loop-test .taken, c .before .loop .inv .3, c .before .before .before .before .before .before .before .before .before .before .before .pre .1)
+room c = omega (
+  arith,
+  c .loop-test .taken,
+  c .before .loop .inv .3,
+  c .before .before .before .before .before .before .before .before .before .before .before .pre .1,
+)
 
 mul-plane-row : tie.Need-mul-plane-row Inv-loop μ-loop
 mul-plane-row c = record { fits = omega (arith, room (c .before .before .before)) }
@@ -43,7 +49,9 @@ plane-row-requires : tie.Need-plane-row-requires Inv-loop μ-loop
 plane-row-requires c κs =
     let at = c .before .before .before .before .before .loop in
     let part : length (take (at .y * 256 + 256 - at .y * 256) (drop (at .y * 256) (at .plane))) ≡ 256 =
-    rw (part-size (at .y * 256) 256) (length-take-le 256 (drop (at .y * 256) (at .plane)) (omega (arith, room (c .before .before .before .before), length-drop (at .y * 256) (at .plane)))) in
+    rw (part-size (at .y * 256) 256)
+    (length-take-le 256 (drop (at .y * 256) (at .plane))
+    (omega (arith, room (c .before .before .before .before), length-drop (at .y * 256) (at .plane)))) in
     (at .inv .1, part)
 
 loop-less : tie.Need-loop-less Inv-loop μ-loop
@@ -61,17 +69,28 @@ loop-again c =
     let own = plane-length (a .width) (a .height) (a .channels) (a .samples .now) (at .y) in
     let long : length v ≡ 256 = ap length is ∙ own in
     let more : take ((at .y + 1) * 256) (onPart (at .y * 256) 256 (λ (x : List Float). v) (at .plane)) ≡ lines row (at .y + 1) =
-    rw (part-pasted (at .y * 256) 256 v (at .plane) long, is) (lines-more 256 row (at .y) (at .plane) (room (c .before .before .before .before .before .before .before .before .before .before .before .before .before)) own (at .inv .2)) in
-    (omega (arith, c .before .before .before .before .before .before .before .before .before .before .before .before .before .loop-test .taken), made .ensures .0, rw (part-size (at .y * 256) 256) more, rw (part-size (at .y * 256) 256) (length-onPart (at .y * 256) 256 (λ (x : List Float). v) (at .plane) (room (c .before .before .before .before .before .before .before .before .before .before .before .before .before)) long ∙ at .inv .3))
+    rw (part-pasted (at .y * 256) 256 v (at .plane) long, is)
+    (lines-more 256 row (at .y) (at .plane)
+    (room (c .before .before .before .before .before .before .before .before .before .before .before .before .before)) own (at .inv .2)) in (
+      omega (arith, c .before .before .before .before .before .before .before .before .before .before .before .before .before .loop-test .taken),
+      made .ensures .0,
+      rw (part-size (at .y * 256) 256) more,
+      rw (part-size (at .y * 256) 256)
+          (length-onPart (at .y * 256) 256 (λ (x : List Float). v) (at .plane)
+          (room (c .before .before .before .before .before .before .before .before .before .before .before .before .before)) long ∙ at .inv .3),
+    )
 
 same-length : tie.Need-same-length Inv-loop μ-loop
-same-length c = c .before .loop .inv .1 .line-room ∙ sym (c .before .before .before .before .before .before .before .before .before .before .before .pre .0 .line-room)
+same-length c = c .before .loop .inv .1 .line-room
+    ∙ sym (c .before .before .before .before .before .before .before .before .before .before .before .pre .0 .line-room)
 
 same-length-2 : tie.Need-same-length-2 Inv-loop μ-loop
-same-length-2 c = c .before .loop .inv .1 .kept .rows-room ∙ sym (c .before .before .before .before .before .before .before .before .before .before .before .pre .0 .kept .rows-room)
+same-length-2 c = c .before .loop .inv .1 .kept .rows-room
+    ∙ sym (c .before .before .before .before .before .before .before .before .before .before .before .pre .0 .kept .rows-room)
 
 same-length-3 : tie.Need-same-length-3 Inv-loop μ-loop
-same-length-3 c = c .before .loop .inv .1 .kept .held-room ∙ sym (c .before .before .before .before .before .before .before .before .before .before .before .pre .0 .kept .held-room)
+same-length-3 c = c .before .loop .inv .1 .kept .held-room
+    ∙ sym (c .before .before .before .before .before .before .before .before .before .before .before .pre .0 .kept .held-room)
 
 same-length-4 : tie.Need-same-length-4 Inv-loop μ-loop
 same-length-4 c = c .before .loop .inv .3
@@ -81,28 +100,14 @@ unfolding planeOf
 returns c =
     let at = c .before .loop in
     let e : at .y ≡ 256 = omega arith in
-    let all : take 65536 (at .plane) ≡ at .plane = take-all 65536 (at .plane) (omega (arith, at .inv .3, c .before .before .before .before .before .before .before .before .before .before .before .pre .1)) in
+    let all : take 65536 (at .plane) ≡ at .plane =
+    take-all 65536 (at .plane)
+    (omega (arith, at .inv .3, c .before .before .before .before .before .before .before .before .before .before .before .pre .1)) in
     sym all ∙ (rw e at (at .inv .2))
 
 pub plane-rows-spec : {M : Type 1} → statement M
 plane-rows-spec =
     tie.close
-    (tie.spec
-    Inv-loop
-    μ-loop
-    loop-holds
-    (λ c. search needs)
-    (λ c. search needs)
-    mul-plane-row
-    (λ c. search needs)
-    (λ c. search needs)
-    part-plane-row-end
-    plane-row-requires
-    (λ c. search needs)
-    loop-less
-    loop-again
-    same-length
-    same-length-2
-    same-length-3
-    same-length-4
+    (tie.spec Inv-loop μ-loop loop-holds (λ c. search needs) (λ c. search needs) mul-plane-row (λ c. search needs) (λ c. search needs)
+    part-plane-row-end plane-row-requires (λ c. search needs) loop-less loop-again same-length same-length-2 same-length-3 same-length-4
     returns)

@@ -24,10 +24,17 @@ loop-holds : tie.Need-loop-holds Inv-loop μ-loop
 loop-holds c = (omega arith, refl, λ l y L h. absurd (omega arith))
 
 values-across-requires : tie.Need-values-across-requires Inv-loop μ-loop
-values-across-requires c κs = (c .before .before .before .before .before .before .before .pre .0, c .loop-test .taken, c .before .before .before .before .before .before .before .pre .1)
+values-across-requires c κs =
+    (c .before .before .before .before .before .before .before .pre .0, c .loop-test .taken, c .before .before .before .before .before .before .before .pre .1)
 
 put-four-requires : tie.Need-put-four-requires Inv-loop μ-loop
-put-four-requires c κs = omega (arith, c .before .before .loop-test .taken, c .before .before .before .loop .inv .1, c .before .before .before .before .before .before .before .before .before .pre .2)
+put-four-requires c κs =
+    omega (
+      arith,
+      c .before .before .loop-test .taken,
+      c .before .before .before .loop .inv .1,
+      c .before .before .before .before .before .before .before .before .before .pre .2,
+    )
 
 loop-again : tie.Need-loop-again Inv-loop μ-loop
 loop-again c =
@@ -36,10 +43,12 @@ loop-again c =
     let put = c .before .before .put-four .ensures in
     let f : ℕ → ℕ → Float = λ l x. across (p .args .width) 256 (lane (now (p .args .line)) l) x in
     let made = c .before .before .before .before .values-across in
-    let is : (l : ℕ) → l < 4 → getD (made .result) l nan ≡ f l (at .x) = λ l h. ap (λ (xs : List Float). getD xs l nan) (made .ensures) ∙ getD-tab (λ l. f l (at .x)) 4 l nan h in
+    let is : (l : ℕ) → l < 4 → getD (made .result) l nan ≡ f l (at .x) =
+    λ l h. ap (λ (xs : List Float). getD xs l nan) (made .ensures) ∙ getD-tab (λ l. f l (at .x)) 4 l nan h in
     let v : ℕ → Float = λ l. getD (made .result) l nan in
     let less : at .x < 256 = c .before .before .before .before .before .loop-test .taken in
-    let more = behind-more nan f (at .x) (at .out) (v 0) (v 1) (v 2) (v 3) less (at .inv .1 ∙ p .pre .2) (is 0 (omega arith)) (is 1 (omega arith)) (is 2 (omega arith)) (is 3 (omega arith)) (at .inv .2) in
+    let more = behind-more nan f (at .x) (at .out) (v 0) (v 1) (v 2) (v 3) less (at .inv .1 ∙ p .pre .2) (is 0 (omega arith)) (is 1 (omega arith))
+    (is 2 (omega arith)) (is 3 (omega arith)) (at .inv .2) in
     (omega arith, rw (put, length-set, length-set, length-set, length-set) (at .inv .1), rw put more)
 
 returns : tie.Need-returns Inv-loop μ-loop
@@ -52,18 +61,5 @@ returns c =
 pub across-four-spec : {M : Type 1} → statement M
 across-four-spec =
     tie.close
-    (tie.spec
-    Inv-loop
-    μ-loop
-    loop-holds
-    values-across-requires
-    (λ c. search needs)
-    (λ c. search needs)
-    (λ c. search needs)
-    (λ c. search needs)
-    put-four-requires
-    (λ c. search needs)
-    (λ c. search needs)
-    loop-again
-    (λ c. search needs)
-    returns)
+    (tie.spec Inv-loop μ-loop loop-holds values-across-requires (λ c. search needs) (λ c. search needs) (λ c. search needs)
+    (λ c. search needs) put-four-requires (λ c. search needs) (λ c. search needs) loop-again (λ c. search needs) returns)

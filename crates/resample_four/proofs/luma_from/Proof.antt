@@ -27,18 +27,11 @@ returns c =
     let p = c .before .before .before .before .before .before .before .before in
     let known = c .before .before .before .before .before .before .before .shared-slice-known .given in
     rw (c .before .before .before .before .share-of .ensures, c .before .before .share-of2 .ensures, c .share-of3 .ensures)
-    (luma-looked (p .args .shares .now) (p .pre .0) (p .args .row .now) (p .args .p) (omega (arith, known (p .args .p))) (omega (arith, known (p .args .p + 1))) (omega (arith, known (p .args .p + 2))))
+    (luma-looked (p .args .shares .now) (p .pre .0) (p .args .row .now) (p .args .p) (omega (arith, known (p .args .p)))
+    (omega (arith, known (p .args .p + 1))) (omega (arith, known (p .args .p + 2))))
 
 pub luma-from-spec : {M : Type 1} → statement M
 luma-from-spec =
     tie.close
-    (tie.spec
-    (λ c. search needs)
-    share-of-requires
-    (λ c. search needs)
-    (λ c. search needs)
-    share-of-requires-2
-    (λ c. search needs)
-    (λ c. search needs)
-    share-of-requires-3
-    returns)
+    (tie.spec (λ c. search needs) share-of-requires (λ c. search needs) (λ c. search needs) share-of-requires-2 (λ c. search needs)
+    (λ c. search needs) share-of-requires-3 returns)

@@ -12,36 +12,83 @@ use Rattle.resample_four.proofs.narrow_four.Statement.{statement}
 use Rattle.resample_four.proofs.narrow_four.Tie as tie
 
 -- row i, or the last, ends within the samples
-inside : (c : tie.Start) (i r : ℕ) → r ≡ cappedAt i (c .args .height) → r * (c .args .width * c .args .channels) + c .args .width * c .args .channels ≤ length (now (c .args .samples))
+inside : (c : tie.Start) (i r : ℕ) → r ≡ cappedAt i (c .args .height)
+    → r * (c .args .width * c .args .channels) + c .args .width * c .args .channels ≤ length (now (c .args .samples))
 inside c i r e = rw e (row-inside (c .pre .0) (cappedAt i (c .args .height)) (capped-below i (c .args .height) (c .pre .0 .high)))
 
 mul-n : tie.Need-mul-n
-mul-n c = record { fits = omega (arith, row-inside (c .before .before .before .before .before .before .before .pre .0) 0 (c .before .before .before .before .before .before .before .pre .0 .high)) }
+mul-n c = record {
+  fits =
+      omega (
+        arith,
+        row-inside (c .before .before .before .before .before .before .before .pre .0) 0
+            (c .before .before .before .before .before .before .before .pre .0 .high),
+      );
+}
 
 mul-a : tie.Need-mul-a
-mul-a c = record { fits = omega (arith, inside (c .before .before .before .before .before .before .before .before) (4 * c .before .before .before .before .before .before .before .before .args .g) (c .capped .result) (c .capped .ensures)) }
+mul-a c = record {
+  fits =
+      omega (
+        arith,
+        inside (c .before .before .before .before .before .before .before .before)
+            (4 * c .before .before .before .before .before .before .before .before .args .g) (c .capped .result) (c .capped .ensures),
+      );
+}
 
 mul-b : tie.Need-mul-b
-mul-b c = record { fits = omega (arith, inside (c .before .before .before .before .before .before .before .before .before) (4 * c .before .before .before .before .before .before .before .before .before .args .g + 1) (c .capped2 .result) (c .capped2 .ensures)) }
+mul-b c = record {
+  fits =
+      omega (
+        arith,
+        inside (c .before .before .before .before .before .before .before .before .before)
+            (4 * c .before .before .before .before .before .before .before .before .before .args .g + 1) (c .capped2 .result) (c .capped2 .ensures),
+      );
+}
 
 mul-c : tie.Need-mul-c
-mul-c c = record { fits = omega (arith, inside (c .before .before .before .before .before .before .before .before .before .before) (4 * c .before .before .before .before .before .before .before .before .before .before .args .g + 2) (c .capped3 .result) (c .capped3 .ensures)) }
+mul-c c = record {
+  fits =
+      omega (
+        arith,
+        inside (c .before .before .before .before .before .before .before .before .before .before)
+            (4 * c .before .before .before .before .before .before .before .before .before .before .args .g + 2) (c .capped3 .result) (c .capped3 .ensures),
+      );
+}
 
 mul-d : tie.Need-mul-d
-mul-d c = record { fits = omega (arith, inside (c .before .before .before .before .before .before .before .before .before .before .before) (4 * c .before .before .before .before .before .before .before .before .before .before .before .args .g + 3) (c .capped4 .result) (c .capped4 .ensures)) }
+mul-d c = record {
+  fits =
+      omega (
+        arith,
+        inside (c .before .before .before .before .before .before .before .before .before .before .before)
+            (4 * c .before .before .before .before .before .before .before .before .before .before .before .args .g + 3) (c .capped4 .result) (c .capped4 .ensures),
+      );
+}
 
 -- each of the four rows ends within the samples
-first : (c : tie.After-capped4) → c .before .before .before .capped .result * (c .before .before .before .before .before .before .before .before .before .before .before .args .width * c .before .before .before .before .before .before .before .before .before .before .before .args .channels) + c .before .before .before .before .before .before .before .before .before .before .before .args .width * c .before .before .before .before .before .before .before .before .before .before .before .args .channels ≤ length (now (c .before .before .before .before .before .before .before .before .before .before .before .args .samples))
-first c = inside (c .before .before .before .before .before .before .before .before .before .before .before) (4 * c .before .before .before .before .before .before .before .before .before .before .before .args .g) (c .before .before .before .capped .result) (c .before .before .before .capped .ensures)
+first : (c : tie.After-capped4)
+    → c .before .before .before .capped .result * (c .before .before .before .before .before .before .before .before .before .before .before .args .width * c .before .before .before .before .before .before .before .before .before .before .before .args .channels) + c .before .before .before .before .before .before .before .before .before .before .before .args .width * c .before .before .before .before .before .before .before .before .before .before .before .args .channels ≤ length (now (c .before .before .before .before .before .before .before .before .before .before .before .args .samples))
+first c = inside (c .before .before .before .before .before .before .before .before .before .before .before)
+    (4 * c .before .before .before .before .before .before .before .before .before .before .before .args .g) (c .before .before .before .capped .result)
+    (c .before .before .before .capped .ensures)
 
-second : (c : tie.After-capped4) → c .before .before .capped2 .result * (c .before .before .before .before .before .before .before .before .before .before .before .args .width * c .before .before .before .before .before .before .before .before .before .before .before .args .channels) + c .before .before .before .before .before .before .before .before .before .before .before .args .width * c .before .before .before .before .before .before .before .before .before .before .before .args .channels ≤ length (now (c .before .before .before .before .before .before .before .before .before .before .before .args .samples))
-second c = inside (c .before .before .before .before .before .before .before .before .before .before .before) (4 * c .before .before .before .before .before .before .before .before .before .before .before .args .g + 1) (c .before .before .capped2 .result) (c .before .before .capped2 .ensures)
+second : (c : tie.After-capped4)
+    → c .before .before .capped2 .result * (c .before .before .before .before .before .before .before .before .before .before .before .args .width * c .before .before .before .before .before .before .before .before .before .before .before .args .channels) + c .before .before .before .before .before .before .before .before .before .before .before .args .width * c .before .before .before .before .before .before .before .before .before .before .before .args .channels ≤ length (now (c .before .before .before .before .before .before .before .before .before .before .before .args .samples))
+second c = inside (c .before .before .before .before .before .before .before .before .before .before .before)
+    (4 * c .before .before .before .before .before .before .before .before .before .before .before .args .g + 1) (c .before .before .capped2 .result)
+    (c .before .before .capped2 .ensures)
 
-third : (c : tie.After-capped4) → c .before .capped3 .result * (c .before .before .before .before .before .before .before .before .before .before .before .args .width * c .before .before .before .before .before .before .before .before .before .before .before .args .channels) + c .before .before .before .before .before .before .before .before .before .before .before .args .width * c .before .before .before .before .before .before .before .before .before .before .before .args .channels ≤ length (now (c .before .before .before .before .before .before .before .before .before .before .before .args .samples))
-third c = inside (c .before .before .before .before .before .before .before .before .before .before .before) (4 * c .before .before .before .before .before .before .before .before .before .before .before .args .g + 2) (c .before .capped3 .result) (c .before .capped3 .ensures)
+third : (c : tie.After-capped4)
+    → c .before .capped3 .result * (c .before .before .before .before .before .before .before .before .before .before .before .args .width * c .before .before .before .before .before .before .before .before .before .before .before .args .channels) + c .before .before .before .before .before .before .before .before .before .before .before .args .width * c .before .before .before .before .before .before .before .before .before .before .before .args .channels ≤ length (now (c .before .before .before .before .before .before .before .before .before .before .before .args .samples))
+third c = inside (c .before .before .before .before .before .before .before .before .before .before .before)
+    (4 * c .before .before .before .before .before .before .before .before .before .before .before .args .g + 2) (c .before .capped3 .result)
+    (c .before .capped3 .ensures)
 
-fourth : (c : tie.After-capped4) → c .capped4 .result * (c .before .before .before .before .before .before .before .before .before .before .before .args .width * c .before .before .before .before .before .before .before .before .before .before .before .args .channels) + c .before .before .before .before .before .before .before .before .before .before .before .args .width * c .before .before .before .before .before .before .before .before .before .before .before .args .channels ≤ length (now (c .before .before .before .before .before .before .before .before .before .before .before .args .samples))
-fourth c = inside (c .before .before .before .before .before .before .before .before .before .before .before) (4 * c .before .before .before .before .before .before .before .before .before .before .before .args .g + 3) (c .capped4 .result) (c .capped4 .ensures)
+fourth : (c : tie.After-capped4)
+    → c .capped4 .result * (c .before .before .before .before .before .before .before .before .before .before .before .args .width * c .before .before .before .before .before .before .before .before .before .before .before .args .channels) + c .before .before .before .before .before .before .before .before .before .before .before .args .width * c .before .before .before .before .before .before .before .before .before .before .before .args .channels ≤ length (now (c .before .before .before .before .before .before .before .before .before .before .before .args .samples))
+fourth c = inside (c .before .before .before .before .before .before .before .before .before .before .before)
+    (4 * c .before .before .before .before .before .before .before .before .before .before .before .args .g + 3) (c .capped4 .result) (c .capped4 .ensures)
 
 add-luma-four : tie.Need-add-luma-four
 add-luma-four c = record { fits = omega (arith, first c) }
@@ -89,47 +136,20 @@ returns c =
     let own = own-part n (now (a .samples)) in
     let made = c .before .before .before .before .before .before .before .luma-four in
     let put = c .before .before .across-four in
-    let line = made .ensures ∙ line-found (a .width) (a .height) (a .channels) (now (a .samples)) (a .g) (p .pre .0 .wide) _ _ _ _ (now (a .line)) (own _ _ (four .before .before .before .capped .ensures)) (own _ _ (four .before .before .capped2 .ensures)) (own _ _ (four .before .capped3 .ensures)) (own _ _ (four .capped4 .ensures)) in
-    (line, narrowed-four (a .width) (a .height) (a .channels) (now (a .samples)) (a .g) (p .pre .0 .wide) (now (a .line)) (made .last .1 .1 .1 .1 .1 .1 .1 .0) (put .last .1 .1 .1 .1 .1 .0) line (put .ensures))
+    let line = made .ensures
+    ∙ line-found (a .width) (a .height) (a .channels) (now (a .samples)) (a .g) (p .pre .0 .wide) _ _ _ _ (now (a .line))
+    (own _ _ (four .before .before .before .capped .ensures)) (own _ _ (four .before .before .capped2 .ensures))
+    (own _ _ (four .before .capped3 .ensures)) (own _ _ (four .capped4 .ensures)) in (
+      line,
+      narrowed-four (a .width) (a .height) (a .channels) (now (a .samples)) (a .g) (p .pre .0 .wide) (now (a .line))
+          (made .last .1 .1 .1 .1 .1 .1 .1 .0) (put .last .1 .1 .1 .1 .1 .0) line (put .ensures),
+    )
 
 pub narrow-four-spec : {M : Type 1} → statement M
 narrow-four-spec =
     tie.close
-    (tie.spec
-    mul-n
-    (λ c. search needs)
-    (λ c κs. search needs)
-    mul-a
-    (λ c. search needs)
-    (λ c. search needs)
-    (λ c κs. search needs)
-    mul-b
-    (λ c. search needs)
-    (λ c. search needs)
-    (λ c κs. search needs)
-    mul-c
-    (λ c. search needs)
-    (λ c. search needs)
-    (λ c κs. search needs)
-    mul-d
-    add-luma-four
-    (λ c. search needs)
-    (λ c. search needs)
-    part-luma-four-end
-    add-luma-four-2
-    (λ c. search needs)
-    (λ c. search needs)
-    part-luma-four-end-2
-    add-luma-four-3
-    (λ c. search needs)
-    (λ c. search needs)
-    part-luma-four-end-3
-    add-luma-four-4
-    (λ c. search needs)
-    (λ c. search needs)
-    part-luma-four-end-4
-    luma-four-requires
-    across-four-requires
-    (λ c. search needs)
-    (λ c. search needs)
-    returns)
+    (tie.spec mul-n (λ c. search needs) (λ c κs. search needs) mul-a (λ c. search needs) (λ c. search needs) (λ c κs. search needs) mul-b
+    (λ c. search needs) (λ c. search needs) (λ c κs. search needs) mul-c (λ c. search needs) (λ c. search needs) (λ c κs. search needs)
+    mul-d add-luma-four (λ c. search needs) (λ c. search needs) part-luma-four-end add-luma-four-2 (λ c. search needs) (λ c. search needs)
+    part-luma-four-end-2 add-luma-four-3 (λ c. search needs) (λ c. search needs) part-luma-four-end-3 add-luma-four-4 (λ c. search needs)
+    (λ c. search needs) part-luma-four-end-4 luma-four-requires across-four-requires (λ c. search needs) (λ c. search needs) returns)

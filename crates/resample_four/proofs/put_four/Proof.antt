@@ -17,19 +17,6 @@ slice-write-s-4 c = rw (length-set, length-set, length-set) (omega arith)
 pub put-four-spec : {M : Type 1} → statement M
 put-four-spec =
     tie.close
-    (tie.spec
-    (λ c. search needs)
-    (λ c. search needs)
-    (λ c. search needs)
-    (λ c. search needs)
-    slice-write-s-2
-    (λ c. search needs)
-    (λ c. search needs)
-    (λ c. search needs)
-    slice-write-s-3
-    (λ c. search needs)
-    (λ c. search needs)
-    (λ c. search needs)
-    slice-write-s-4
-    (λ c. search needs)
-    (λ c. search needs))
+    (tie.spec (λ c. search needs) (λ c. search needs) (λ c. search needs) (λ c. search needs) slice-write-s-2 (λ c. search needs)
+    (λ c. search needs) (λ c. search needs) slice-write-s-3 (λ c. search needs) (λ c. search needs) (λ c. search needs) slice-write-s-4
+    (λ c. search needs) (λ c. search needs))

@@ -1,4 +1,5 @@
--- Before place n each of the four sums is that of the taps of sample x that stand before it, over its own row; `one-more` adds one, and `from-inside` keeps its reads in the line.
+-- Before place n each of the four sums is that of the taps of sample x that stand before it, over its own row; `one-more` adds
+-- one, and `from-inside` keeps its reads in the line.
 use mathlib.Core.Path.{_≡_, refl, _∙_}
 use Prim.Native.Nat.{ℕ, _+_, _-_, _*_, _≤_, _<_}
 use native.Mathlib.Omega.{arith}
@@ -19,21 +20,34 @@ use Rattle.resample_four.proofs.values_across.Tie as tie
 
 abbrev Inv-loop : tie.InvT-loop
 Inv-loop x width offsets index weight line a e t₀ u₀ v₀ w₀ n₀ t u v w n =
-    (a ≡ start width 256 x) × (e ≡ start width 256 (x + 1)) × (a ≤ n) × (n ≤ e) × (t ≡ soFar width 256 x n (lane line 0)) × (u ≡ soFar width 256 x n (lane line 1)) × (v ≡ soFar width 256 x n (lane line 2)) × (w ≡ soFar width 256 x n (lane line 3))
+    (a ≡ start width 256 x) × (e ≡ start width 256 (x + 1)) × (a ≤ n) × (n ≤ e) × (t ≡ soFar width 256 x n (lane line 0))
+    × (u ≡ soFar width 256 x n (lane line 1)) × (v ≡ soFar width 256 x n (lane line 2)) × (w ≡ soFar width 256 x n (lane line 3))
 
 abbrev μ-loop : tie.MeasureT-loop
 μ-loop x width offsets index weight line a e t₀ u₀ v₀ w₀ n₀ t u v w n = e - n
 
 -- in a turn the place is one of the tables'
-bound : (c : tie.In-loop Inv-loop μ-loop) → c .before .loop .n < start (c .before .before .before .before .before .before .before .before .before .before .args .width) 256 256
-bound c = let p = c .before .before .before .before .before .before .before .before .before .before in place-fits (p .pre .0) (p .args .x) (c .before .loop .n) (p .pre .1) (omega arith) (omega arith)
+bound : (c : tie.In-loop Inv-loop μ-loop)
+    → c .before .loop .n < start (c .before .before .before .before .before .before .before .before .before .before .args .width) 256 256
+bound c = let p = c .before .before .before .before .before .before .before .before .before .before in
+    place-fits (p .pre .0) (p .args .x) (c .before .loop .n) (p .pre .1) (omega arith) (omega arith)
 
 -- and the tap's reads lie in the line
-inside : (c : tie.In-loop Inv-loop μ-loop) → getD (now (c .before .before .before .before .before .before .before .before .before .before .args .index)) (c .before .loop .n) 0 < c .before .before .before .before .before .before .before .before .before .before .args .width
-inside c = let p = c .before .before .before .before .before .before .before .before .before .before in from-inside (p .pre .0) (p .args .x) (c .before .loop .n) (p .pre .1) (omega arith) (omega arith)
+inside : (c : tie.In-loop Inv-loop μ-loop)
+    → getD (now (c .before .before .before .before .before .before .before .before .before .before .args .index))
+    (c .before .loop .n) 0 < c .before .before .before .before .before .before .before .before .before .before .args .width
+inside c = let p = c .before .before .before .before .before .before .before .before .before .before in
+    from-inside (p .pre .0) (p .args .x) (c .before .loop .n) (p .pre .1) (omega arith) (omega arith)
 
-reads : (c : tie.After-wide3 Inv-loop μ-loop) → 4 * c .wide3 .result + 4 ≤ length (now (c .before .before .before .before .before .before .before .before .before .before .before .before .args .line))
-reads c = omega (arith, inside (c .before .before), c .wide3 .ensures, c .before .before .before .before .before .before .before .before .before .before .before .before .pre .2)
+reads : (c : tie.After-wide3 Inv-loop μ-loop)
+    → 4 * c .wide3 .result + 4 ≤ length (now (c .before .before .before .before .before .before .before .before .before .before .before .before .args .line))
+reads c = omega (
+  arith,
+  inside
+      (c .before .before),
+  c .wide3 .ensures,
+  c .before .before .before .before .before .before .before .before .before .before .before .before .pre .2,
+)
 
 loop-holds : tie.Need-loop-holds Inv-loop μ-loop
 unfolding neg ofBits
@@ -44,7 +58,8 @@ loop-holds c =
     let t : Tables width 256 (now (p .args .offsets)) (now (p .args .index)) (now (p .args .weight)) = p .pre .0 in
     let a : c .before .before .wide .result ≡ start width 256 x = c .before .before .wide .ensures ∙ offset-at t x (omega arith) in
     let e : c .wide2 .result ≡ start width 256 (x + 1) = c .wide2 .ensures ∙ offset-at t (x + 1) (omega arith) in
-    let none : (l : ℕ) → zero- ≡ soFar width 256 x (c .before .before .wide .result) (lane (now (p .args .line)) l) = λ l. none-yet width 256 x (c .before .before .wide .result) (lane (now (p .args .line)) l) a in
+    let none : (l : ℕ) → zero- ≡ soFar width 256 x (c .before .before .wide .result) (lane (now (p .args .line)) l) =
+    λ l. none-yet width 256 x (c .before .before .wide .result) (lane (now (p .args .line)) l) a in
     (a, e, search needs, omega (arith, start-rises width 256 x (x + 1) (omega arith)), none 0, none 1, none 2, none 3)
 
 mul-wide-3 : tie.Need-mul-wide-3 Inv-loop μ-loop
@@ -103,11 +118,20 @@ loop-again c =
     let line = now (p .args .line) in
     let h = at .inv in
     let so : ℕ → ℕ → Float = λ n l. soFar (p .args .width) 256 (p .args .x) n (lane line l) in
-    let more : (l : ℕ) (v : Float) → v ≡ so (at .n) l → add binary32 v (mul binary32 (getD (now (p .args .weight)) (at .n) nan) (lane line l (getD (now (p .args .index)) (at .n) 0))) ≡ so (at .n + 1) l =
+    let more : (l : ℕ) (v : Float) → v ≡ so (at .n) l
+    → add binary32 v (mul binary32 (getD (now (p .args .weight)) (at .n) nan) (lane line l (getD (now (p .args .index)) (at .n) 0))) ≡ so (at .n + 1) l =
     λ l v e. one-more (p .pre .0) (p .args .x) (at .n) (p .pre .1) (omega arith) (omega arith) v (lane line l) e in
     let k = c .before .before .before .before .before .wide3 .ensures in
-    let first : 4 * getD (now (p .args .index)) (at .n) 0 + 0 ≡ 4 * getD (now (p .args .index)) (at .n) 0 = omega arith in
-    (h .0, h .1, search needs, search needs, rw k (rw first at (more 0 (at .t) (h .4))), rw k (more 1 (at .u) (h .5)), rw k (more 2 (at .v) (h .6)), rw k (more 3 (at .w) (h .7)))
+    let first : 4 * getD (now (p .args .index)) (at .n) 0 + 0 ≡ 4 * getD (now (p .args .index)) (at .n) 0 = omega arith in (
+      h .0,
+      h .1,
+      search needs,
+      search needs,
+      rw k (rw first at (more 0 (at .t) (h .4))),
+      rw k (more 1 (at .u) (h .5)),
+      rw k (more 2 (at .v) (h .6)),
+      rw k (more 3 (at .w) (h .7)),
+    )
 
 returns : tie.Need-returns Inv-loop μ-loop
 unfolding tab
@@ -115,41 +139,15 @@ returns c =
     let p = c .before .before .before .before .before .before .before .before .before .before in
     let at = c .before .loop in
     let line = now (p .args .line) in
-    let all : (l : ℕ) (v : Float) → v ≡ soFar (p .args .width) 256 (p .args .x) (at .n) (lane line l) → v ≡ across (p .args .width) 256 (lane line l) (p .args .x) = λ l v e. all-there (p .args .width) 256 (p .args .x) (at .n) v (lane line l) (omega arith) e in
+    let all : (l : ℕ) (v : Float) → v ≡ soFar (p .args .width) 256 (p .args .x) (at .n) (lane line l)
+    → v ≡ across (p .args .width) 256 (lane line l) (p .args .x) =
+    λ l v e. all-there (p .args .width) 256 (p .args .x) (at .n) v (lane line l) (omega arith) e in
     rw (all 0 (at .t) (at .inv .4), all 1 (at .u) (at .inv .5), all 2 (at .v) (at .inv .6), all 3 (at .w) (at .inv .7)) refl
 
 pub values-across-spec : {M : Type 1} → statement M
 values-across-spec =
     tie.close
-    (tie.spec
-    Inv-loop
-    μ-loop
-    (λ c. search needs)
-    (λ c. search needs)
-    (λ c κs. search needs)
-    (λ c. search needs)
-    (λ c. search needs)
-    (λ c. search needs)
-    (λ c κs. search needs)
-    loop-holds
-    mul-wide-3
-    shared-slice-read-wide-3
-    (λ c κs. search needs)
-    mul-k
-    mul-q
-    shared-slice-read-q
-    mul-t
-    shared-slice-read-t
-    add-u
-    mul-u
-    shared-slice-read-u
-    add-v
-    mul-v
-    shared-slice-read-v
-    add-w
-    mul-w
-    shared-slice-read-w
-    (λ c. search needs)
-    (λ c. search needs)
-    loop-again
-    returns)
+    (tie.spec Inv-loop μ-loop (λ c. search needs) (λ c. search needs) (λ c κs. search needs) (λ c. search needs) (λ c. search needs)
+    (λ c. search needs) (λ c κs. search needs) loop-holds mul-wide-3 shared-slice-read-wide-3 (λ c κs. search needs) mul-k mul-q
+    shared-slice-read-q mul-t shared-slice-read-t add-u mul-u shared-slice-read-u add-v mul-v shared-slice-read-v add-w mul-w
+    shared-slice-read-w (λ c. search needs) (λ c. search needs) loop-again returns)

@@ -33,31 +33,29 @@ add-row-requires c κs =
     sym (rw (part-size (kept .result) (length (a .sum .now)), kept .ensures .1 .1) (wide-length (length (a .sum .now)) (a .change .now) (a .k)))
 
 same-length : tie.Need-same-length
-same-length c = c .before .before .before .before .before .before .before .before .before .before .keep .ensures .0 .kept .rows-room ∙ sym (c .before .before .before .before .before .before .before .before .before .before .before .before .before .before .before .before .before .before .before .before .pre .0 .kept .rows-room)
+same-length c = c .before .before .before .before .before .before .before .before .before .before .keep .ensures .0 .kept .rows-room
+    ∙ sym (c .before .before .before .before .before .before .before .before .before .before .before .before .before .before .before .before .before .before .before .before .pre .0 .kept .rows-room)
 
 same-length-2 : tie.Need-same-length-2
-same-length-2 c = c .before .before .before .before .before .before .before .before .before .before .keep .ensures .0 .kept .held-room ∙ sym (c .before .before .before .before .before .before .before .before .before .before .before .before .before .before .before .before .before .before .before .before .pre .0 .kept .held-room)
+same-length-2 c = c .before .before .before .before .before .before .before .before .before .before .keep .ensures .0 .kept .held-room
+    ∙ sym (c .before .before .before .before .before .before .before .before .before .before .before .before .before .before .before .before .before .before .before .before .pre .0 .kept .held-room)
 
 same-length-3 : tie.Need-same-length-3
 same-length-3 c = ap length (c .before .before .add-row .ensures) ∙ length-tab _ _
 
 returns : tie.Need-returns
 returns c =
-    let kept = c .before .before .before .before .before .before .before .before .before .before .keep in
-    (kept .ensures .0, rw (part-size (kept .result) (length (c .before .before .before .before .before .before .before .before .before .before .before .before .before .before .before .before .before .before .before .before .args .sum .now)), kept .ensures .1 .1) at (c .before .before .add-row .ensures))
+    let kept = c .before .before .before .before .before .before .before .before .before .before .keep in (
+      kept .ensures .0,
+      rw (
+        part-size (kept .result)
+            (length (c .before .before .before .before .before .before .before .before .before .before .before .before .before .before .before .before .before .before .before .before .args .sum .now)),
+        kept .ensures .1 .1,
+      ) at (c .before .before .add-row .ensures),
+    )
 
 pub add-change-row-spec : {M : Type 1} → statement M
 add-change-row-spec =
     tie.close
-    (tie.spec
-    keep-requires
-    add-end
-    mul-add-row
-    sub-add-row
-    part-add-row-start
-    part-add-row-end
-    add-row-requires
-    same-length
-    same-length-2
-    same-length-3
-    returns)
+    (tie.spec keep-requires add-end mul-add-row sub-add-row part-add-row-start part-add-row-end add-row-requires same-length same-length-2
+    same-length-3 returns)

@@ -18,7 +18,8 @@ use Rattle.resample_up.proofs.add_window.Tie as tie
 
 abbrev Inv-loop : tie.InvT-loop
 Inv-loop w change offsets index weight rows₀ held₀ sum₀ first last count k₀ rows held sum k =
-    (k ≤ count) × Widening (length sum₀) change offsets index weight held rows × (sum ≡ sumRows (length sum₀) (wideRow (length sum₀) change) (tapsTo w 256 k)) × (length sum ≡ length sum₀)
+    (k ≤ count) × Widening (length sum₀) change offsets index weight held rows
+    × (sum ≡ sumRows (length sum₀) (wideRow (length sum₀) change) (tapsTo w 256 k)) × (length sum ≡ length sum₀)
 
 abbrev μ-loop : tie.MeasureT-loop
 μ-loop w change offsets index weight rows₀ held₀ sum₀ first last count k₀ rows held sum k = count - k
@@ -27,8 +28,12 @@ loop-holds : tie.Need-loop-holds Inv-loop μ-loop
 unfolding tapsTo
 loop-holds c = let p = c .before .before .before .before .before .before .before .before .before .before .pre in (omega arith, p .0, p .2, refl)
 
-less : (c : tie.In-loop Inv-loop μ-loop) → c .before .loop .k < numbers (c .before .before .before .before .before .before .before .before .before .before .before .before .args .w .first) (c .before .before .before .before .before .before .before .before .before .before .before .before .args .w .last)
-less c = rw (← window-counted (c .before .before .before .before .before .before .before .before .before .before .before .before .args .w) (c .before .before .before .before .before .before .before .before .before .before .before .before .pre .1) (c .before .before .count .result) (c .before .before .count .ensures)) (c .loop-test .taken)
+less : (c : tie.In-loop Inv-loop μ-loop)
+    → c .before .loop .k < numbers (c .before .before .before .before .before .before .before .before .before .before .before .before .args .w .first)
+    (c .before .before .before .before .before .before .before .before .before .before .before .before .args .w .last)
+less c = rw (← window-counted (c .before .before .before .before .before .before .before .before .before .before .before .before .args .w)
+    (c .before .before .before .before .before .before .before .before .before .before .before .before .pre .1) (c .before .before .count .result)
+    (c .before .before .count .ensures)) (c .loop-test .taken)
 
 nth-requires : tie.Need-nth-requires Inv-loop μ-loop
 nth-requires c κs =
@@ -46,18 +51,29 @@ loop-again c =
     let at = c .before .before .before .before .before .loop in
     let n = length (a .sum .now) in
     let nth = c .before .before .before .nth in
-    let weighed = c .before .before .weight in
-    (omega (arith, c .before .before .before .before .loop-test .taken), at .inv .1, turn-without (a .w) (p .pre .1) (at .k) (less (c .before .before .before .before)) (nth .result) (nth .ensures) (weighed .result) (weighed .ensures) 256 n (wideRow n (a .change .now)) (at .sum) (at .inv .2) (c .enum-told .given .1), at .inv .3)
+    let weighed = c .before .before .weight in (
+      omega (arith, c .before .before .before .before .loop-test .taken),
+      at .inv .1,
+      turn-without (a .w) (p .pre .1) (at .k)
+          (less (c .before .before .before .before)) (nth .result) (nth .ensures) (weighed .result) (weighed .ensures) 256 n (wideRow n (a .change .now))
+          (at .sum) (at .inv .2) (c .enum-told .given .1),
+      at .inv .3,
+    )
 
 add-change-row-requires : tie.Need-add-change-row-requires Inv-loop μ-loop
 add-change-row-requires c κs =
     let at = c .before .before .before .before .before .before .before .before .before .before .loop in
     let clamped = c .before .before .before .clamp in
-    let i : clamped .result < 256 = rw (clamped .ensures) (clamp-below (toZ w64 (ofZ w64 (c .before .before .before .before .before .before .before .before .nth .result))) 256 (omega arith)) in
+    let i : clamped .result < 256 =
+    rw (clamped .ensures)
+    (clamp-below (toZ w64 (ofZ w64 (c .before .before .before .before .before .before .before .before .nth .result))) 256 (omega arith)) in
     rw (at .inv .3) (at .inv .1, i)
 
 loop-less-2 : tie.Need-loop-less-2 Inv-loop μ-loop
-loop-less-2 c = omega (arith, c .before .before .before .before .before .before .before .before .before .before .before .before .before .before .before .before .loop-test .taken)
+loop-less-2 c = omega (
+  arith,
+  c .before .before .before .before .before .before .before .before .before .before .before .before .before .before .before .before .loop-test .taken,
+)
 
 loop-again-2 : tie.Need-loop-again-2 Inv-loop μ-loop
 loop-again-2 c =
@@ -71,14 +87,20 @@ loop-again-2 c =
     let told = c .before .before .before .before .before .before .before .before .before .before .before .before .q .given in
     let clamped = c .before .before .before .before .before .before .before .before .before .before .clamp in
     let added = c .before .before .before .before .before .before .add-change-row in
-    let more = (rw (at .inv .3) at (added .ensures .1)) ∙ turn-with (a .w) (p .pre .1) (at .k) (less (c .before .before .before .before .before .before .before .before .before .before .before .before .before .before .before .before)) (nth .result) (nth .ensures) (weighed .result) (weighed .ensures) 256 n row (at .sum) (at .inv .2) (told .0 .0) (clamped .result) (told .1) (clamped .ensures) in
+    let more = (rw (at .inv .3) at (added .ensures .1))
+    ∙ turn-with (a .w) (p .pre .1) (at .k)
+    (less (c .before .before .before .before .before .before .before .before .before .before .before .before .before .before .before .before))
+    (nth .result) (nth .ensures) (weighed .result) (weighed .ensures) 256 n row (at .sum) (at .inv .2) (told .0 .0) (clamped .result) (told .1)
+    (clamped .ensures) in
     (omega (arith, c .before .before .before .before .before .before .before .before .before .before .before .before .before .before .before .before .loop-test .taken), rw (at .inv .3) at (added .ensures .0), more, ap length more ∙ length-sumRows n row _)
 
 same-length : tie.Need-same-length Inv-loop μ-loop
-same-length c = c .before .loop .inv .1 .kept .rows-room ∙ sym (c .before .before .before .before .before .before .before .before .before .before .before .before .pre .0 .kept .rows-room)
+same-length c = c .before .loop .inv .1 .kept .rows-room
+    ∙ sym (c .before .before .before .before .before .before .before .before .before .before .before .before .pre .0 .kept .rows-room)
 
 same-length-2 : tie.Need-same-length-2 Inv-loop μ-loop
-same-length-2 c = c .before .loop .inv .1 .kept .held-room ∙ sym (c .before .before .before .before .before .before .before .before .before .before .before .before .pre .0 .kept .held-room)
+same-length-2 c = c .before .loop .inv .1 .kept .held-room
+    ∙ sym (c .before .before .before .before .before .before .before .before .before .before .before .before .pre .0 .kept .held-room)
 
 same-length-3 : tie.Need-same-length-3 Inv-loop μ-loop
 same-length-3 c = c .before .loop .inv .3
@@ -87,30 +109,13 @@ returns : tie.Need-returns Inv-loop μ-loop
 returns c =
     let p = c .before .before .before .before .before .before .before .before .before .before .before .before in
     let at = c .before .loop in
-    let e : at .k ≡ numbers (p .args .w .first) (p .args .w .last) = omega (arith, window-counted (p .args .w) (p .pre .1) (c .before .before .count .result) (c .before .before .count .ensures)) in
+    let e : at .k ≡ numbers (p .args .w .first) (p .args .w .last) =
+    omega (arith, window-counted (p .args .w) (p .pre .1) (c .before .before .count .result) (c .before .before .count .ensures)) in
     (at .inv .1, rw e at (at .inv .2))
 
 pub add-window-spec : {M : Type 1} → statement M
 add-window-spec =
     tie.close
-    (tie.spec
-    Inv-loop
-    μ-loop
-    (λ c κs. search needs)
-    loop-holds
-    nth-requires
-    (λ c κs. search needs)
-    (λ c. search needs)
-    (λ c. search needs)
-    (λ c. search needs)
-    loop-less
-    loop-again
-    (λ c κs. search needs)
-    add-change-row-requires
-    (λ c. search needs)
-    loop-less-2
-    loop-again-2
-    same-length
-    same-length-2
-    same-length-3
-    returns)
+    (tie.spec Inv-loop μ-loop (λ c κs. search needs) loop-holds nth-requires (λ c κs. search needs) (λ c. search needs) (λ c. search needs)
+    (λ c. search needs) loop-less loop-again (λ c κs. search needs) add-change-row-requires (λ c. search needs) loop-less-2 loop-again-2
+    same-length same-length-2 same-length-3 returns)

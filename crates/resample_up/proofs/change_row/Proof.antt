@@ -17,24 +17,33 @@ zeros : (n : ℕ) → replicate n (ofBits binary32 0) ≡ replicate n zero+
 unfolding ofBits
 zeros n = refl
 
-zeroed : (c : tie.After-zero-floats) → length (c .zero-floats .last .0) ≡ length (c .before .before .before .before .before .before .before .before .before .args .out .now)
-zeroed c = ap length (c .zero-floats .ensures) ∙ length-replicate (length (c .before .before .before .before .before .before .before .before .before .args .out .now)) (ofBits binary32 0)
+zeroed : (c : tie.After-zero-floats)
+    → length (c .zero-floats .last .0) ≡ length (c .before .before .before .before .before .before .before .before .before .args .out .now)
+zeroed c = ap length (c .zero-floats .ensures)
+    ∙ length-replicate (length (c .before .before .before .before .before .before .before .before .before .args .out .now)) (ofBits binary32 0)
 
 add-window-requires : tie.Need-add-window-requires
 add-window-requires c κs =
     let p = c .before .before .before .before .before .before .before .before .before .before .before .before .before .before .before in
     let n = length (p .args .out .now) in
     let made = c .before .before .before .new in
-    rw (zeroed (c .before .before .before .before .before .before)) (p .pre, window-small (made .result) 256 (p .args .height) (p .args .y) (made .ensures), c .before .before .before .before .before .before .zero-floats .ensures ∙ (zeros n ∙ sumRows-none n (wideRow n (p .args .change .now))))
+    rw (zeroed (c .before .before .before .before .before .before)) (
+      p .pre,
+      window-small (made .result) 256 (p .args .height) (p .args .y) (made .ensures),
+      c .before .before .before .before .before .before .zero-floats .ensures ∙ (zeros n ∙ sumRows-none n (wideRow n (p .args .change .now))),
+    )
 
 same-length : tie.Need-same-length
-same-length c = c .before .before .before .before .before .before .add-window .ensures .0 .kept .rows-room ∙ sym (c .before .before .before .before .before .before .before .before .before .before .before .before .before .before .before .before .before .before .before .before .before .before .pre .kept .rows-room)
+same-length c = c .before .before .before .before .before .before .add-window .ensures .0 .kept .rows-room
+    ∙ sym (c .before .before .before .before .before .before .before .before .before .before .before .before .before .before .before .before .before .before .before .before .before .before .pre .kept .rows-room)
 
 same-length-2 : tie.Need-same-length-2
-same-length-2 c = c .before .before .before .before .before .before .add-window .ensures .0 .kept .held-room ∙ sym (c .before .before .before .before .before .before .before .before .before .before .before .before .before .before .before .before .before .before .before .before .before .before .pre .kept .held-room)
+same-length-2 c = c .before .before .before .before .before .before .add-window .ensures .0 .kept .held-room
+    ∙ sym (c .before .before .before .before .before .before .before .before .before .before .before .before .before .before .before .before .before .before .before .before .before .before .pre .kept .held-room)
 
 same-length-3 : tie.Need-same-length-3
-same-length-3 c = ap length (c .before .before .before .before .before .before .add-window .ensures .1) ∙ (length-sumRows _ _ _ ∙ zeroed (c .before .before .before .before .before .before .before .before .before .before .before .before .before))
+same-length-3 c = ap length (c .before .before .before .before .before .before .add-window .ensures .1)
+    ∙ (length-sumRows _ _ _ ∙ zeroed (c .before .before .before .before .before .before .before .before .before .before .before .before .before))
 
 returns : tie.Need-returns
 returns c =
@@ -42,17 +51,14 @@ returns c =
     let n = length (p .args .out .now) in
     let row = wideRow n (p .args .change .now) in
     let made = c .before .before .before .before .before .before .before .before .before .before .new in
-    let added = rw (zeroed (c .before .before .before .before .before .before .before .before .before .before .before .before .before)) at (c .before .before .before .before .before .before .add-window .ensures) in
-    (added .0, added .1 ∙ (ap (sumRows n row) (taps-of (made .result) 256 (p .args .height) (p .args .y) (made .ensures)) ∙ change-of n (p .args .height) (p .args .change .now) (p .args .y)))
+    let added = rw (zeroed (c .before .before .before .before .before .before .before .before .before .before .before .before .before)) at
+    (c .before .before .before .before .before .before .add-window .ensures) in (
+      added .0,
+      added .1 ∙ (ap (sumRows n row) (taps-of (made .result) 256 (p .args .height) (p .args .y) (made .ensures))
+          ∙ change-of n (p .args .height) (p .args .change .now) (p .args .y)),
+    )
 
 pub change-row-spec : {M : Type 1} → statement M
 change-row-spec =
     tie.close
-    (tie.spec
-    (λ c κs. search needs)
-    (λ c κs. search needs)
-    add-window-requires
-    same-length
-    same-length-2
-    same-length-3
-    returns)
+    (tie.spec (λ c κs. search needs) (λ c κs. search needs) add-window-requires same-length same-length-2 same-length-3 returns)

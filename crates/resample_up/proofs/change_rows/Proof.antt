@@ -17,20 +17,31 @@ use Rattle.resample_up.proofs.change_rows.Tie as tie
 
 abbrev Inv-loop : tie.InvT-loop
 Inv-loop width height channels change offsets index weight rows₀ held₀ delta₀ samples₀ n y₀ rows held delta samples y =
-    (y ≤ height) × Widening width change offsets index weight held rows × (length delta ≡ width) × (samples ≡ changedRows width height channels change samples₀ y) × (length samples ≡ length samples₀)
+    (y ≤ height) × Widening width change offsets index weight held rows × (length delta ≡ width)
+    × (samples ≡ changedRows width height channels change samples₀ y) × (length samples ≡ length samples₀)
 
 abbrev μ-loop : tie.MeasureT-loop
 μ-loop width height channels change offsets index weight rows₀ held₀ delta₀ samples₀ n y₀ rows held delta samples y = height - y
 
 mul-n : tie.Need-mul-n Inv-loop μ-loop
-mul-n c = record { fits = omega (arith, row-inside (c .before .before .before .before .before .before .before .before .pre .1) 0 (c .before .before .before .before .before .before .before .before .pre .1 .high)) }
+mul-n c = record {
+  fits =
+      omega (
+        arith,
+        row-inside (c .before .before .before .before .before .before .before .before .pre .1) 0
+            (c .before .before .before .before .before .before .before .before .pre .1 .high),
+      );
+}
 
 loop-holds : tie.Need-loop-holds Inv-loop μ-loop
-loop-holds c = let p = c .before .before .before .before .before .before .before .before in (omega arith, p .pre .0, p .pre .2, rows-none (p .args .width) (p .args .height) (p .args .channels) (p .args .change .now) (p .args .samples .now), refl)
+loop-holds c = let p = c .before .before .before .before .before .before .before .before in
+    (omega arith, p .pre .0, p .pre .2, rows-none (p .args .width) (p .args .height) (p .args .channels) (p .args .change .now) (p .args .samples .now), refl)
 
 -- in a turn the row ends within the samples
-fits : (c : tie.In-loop Inv-loop μ-loop) → c .before .loop .y * (c .before .before .before .before .before .before .before .before .before .before .args .width * c .before .before .before .before .before .before .before .before .before .before .args .channels) + c .before .before .before .before .before .before .before .before .before .before .args .width * c .before .before .before .before .before .before .before .before .before .before .args .channels ≤ length (c .before .before .before .before .before .before .before .before .before .before .args .samples .now)
-fits c = row-inside (c .before .before .before .before .before .before .before .before .before .before .pre .1) (c .before .loop .y) (omega (arith, c .loop-test .taken, c .before .before .before .before .before .before .before .before .before .before .pre .1 .high))
+fits : (c : tie.In-loop Inv-loop μ-loop)
+    → c .before .loop .y * (c .before .before .before .before .before .before .before .before .before .before .args .width * c .before .before .before .before .before .before .before .before .before .before .args .channels) + c .before .before .before .before .before .before .before .before .before .before .args .width * c .before .before .before .before .before .before .before .before .before .before .args .channels ≤ length (c .before .before .before .before .before .before .before .before .before .before .args .samples .now)
+fits c = row-inside (c .before .before .before .before .before .before .before .before .before .before .pre .1) (c .before .loop .y)
+    (omega (arith, c .loop-test .taken, c .before .before .before .before .before .before .before .before .before .before .pre .1 .high))
 
 mul-a : tie.Need-mul-a Inv-loop μ-loop
 mul-a c = record { fits = omega (arith, fits c) }
@@ -48,7 +59,12 @@ part-write-row-start : tie.Need-part-write-row-start Inv-loop μ-loop
 part-write-row-start c = omega arith
 
 part-write-row-end : tie.Need-part-write-row-end Inv-loop μ-loop
-part-write-row-end c = omega (arith, fits (c .before .before .before .before .before .before .before .before .before .before), c .before .before .before .before .before .before .before .before .before .before .before .loop .inv .4)
+part-write-row-end c =
+    omega (
+      arith,
+      fits (c .before .before .before .before .before .before .before .before .before .before),
+      c .before .before .before .before .before .before .before .before .before .before .before .loop .inv .4,
+    )
 
 write-row-requires : tie.Need-write-row-requires Inv-loop μ-loop
 write-row-requires c κs =
@@ -58,12 +74,17 @@ write-row-requires c κs =
     let at = c .before .before .before .before .before .before .before .before .before .before .before .before .before .loop in
     let made = c .before .before .before .before .before .before .before .before .change-row in
     let n = a .width * a .channels in
-    let long : length (made .last .1 .1 .1 .1 .1 .1 .1 .1 .0) ≡ a .width = ap length (made .ensures .1) ∙ (change-length (length (at .delta)) (a .height) (a .change .now) (at .y) ∙ at .inv .2) in
-    let room : at .y * n + n ≤ length (at .samples) = omega (arith, fits (c .before .before .before .before .before .before .before .before .before .before .before .before), at .inv .4) in
+    let long : length (made .last .1 .1 .1 .1 .1 .1 .1 .1 .0) ≡ a .width =
+    ap length (made .ensures .1) ∙ (change-length (length (at .delta)) (a .height) (a .change .now) (at .y) ∙ at .inv .2) in
+    let room : at .y * n + n ≤ length (at .samples) =
+    omega (arith, fits (c .before .before .before .before .before .before .before .before .before .before .before .before), at .inv .4) in
     rw long (s .three, s .four, ap length (part-row n (at .samples) (at .y)) ∙ length-row n (at .samples) (at .y) room, s .width-most)
 
 loop-less : tie.Need-loop-less Inv-loop μ-loop
-loop-less c = omega (arith, c .before .before .before .before .before .before .before .before .before .before .before .before .before .before .before .loop-test .taken)
+loop-less c = omega (
+  arith,
+  c .before .before .before .before .before .before .before .before .before .before .before .before .before .before .before .loop-test .taken,
+)
 
 loop-again : tie.Need-loop-again Inv-loop μ-loop
 unfolding onPart
@@ -74,23 +95,29 @@ loop-again c =
     let made = c .before .before .before .before .before .before .before .before .before .before .before .change-row in
     let written = c .before .before .write-row in
     let n = a .width * a .channels in
-    let less : at .y < a .height = omega (arith, c .before .before .before .before .before .before .before .before .before .before .before .before .before .before .before .loop-test .taken, p .pre .1 .high) in
+    let less : at .y < a .height =
+    omega (arith, c .before .before .before .before .before .before .before .before .before .before .before .before .before .before .before .loop-test .taken, p .pre .1 .high) in
     let delta = made .last .1 .1 .1 .1 .1 .1 .1 .1 .0 in
     let is : delta ≡ changeRow (a .width) (a .height) (a .change .now) (at .y) = rw (at .inv .2) at (made .ensures .1) in
-    let more = changed-rows-more (a .width) (a .height) (a .channels) (a .change .now) (a .samples .now) (p .pre .1 .full) (at .y) (at .samples) (written .last .0) delta less (at .inv .3) is
+    let more = changed-rows-more (a .width) (a .height) (a .channels) (a .change .now) (a .samples .now) (p .pre .1 .full) (at .y) (at .samples)
+    (written .last .0) delta less (at .inv .3) is
     (written .ensures ∙ ap (changedRow (a .channels) (λ x. getD delta x nan)) (part-row n (at .samples) (at .y))) in (
       omega arith,
       rw (at .inv .2) at (made .ensures .0),
       ap length is ∙ change-length (a .width) (a .height) (a .change .now) (at .y),
       rw (part-size (at .y * n) n) more,
-      rw (part-size (at .y * n) n) (ap length more ∙ changed-rows-length (a .width) (a .height) (a .channels) (a .change .now) (a .samples .now) (p .pre .1 .full) (at .y + 1) (omega arith)),
+      rw (part-size (at .y * n) n)
+          (ap length more ∙ changed-rows-length (a .width) (a .height) (a .channels) (a .change .now) (a .samples .now) (p .pre .1 .full) (at .y + 1)
+          (omega arith)),
     )
 
 same-length : tie.Need-same-length Inv-loop μ-loop
-same-length c = c .before .loop .inv .1 .kept .rows-room ∙ sym (c .before .before .before .before .before .before .before .before .before .before .pre .0 .kept .rows-room)
+same-length c = c .before .loop .inv .1 .kept .rows-room
+    ∙ sym (c .before .before .before .before .before .before .before .before .before .before .pre .0 .kept .rows-room)
 
 same-length-2 : tie.Need-same-length-2 Inv-loop μ-loop
-same-length-2 c = c .before .loop .inv .1 .kept .held-room ∙ sym (c .before .before .before .before .before .before .before .before .before .before .pre .0 .kept .held-room)
+same-length-2 c = c .before .loop .inv .1 .kept .held-room
+    ∙ sym (c .before .before .before .before .before .before .before .before .before .before .pre .0 .kept .held-room)
 
 same-length-3 : tie.Need-same-length-3 Inv-loop μ-loop
 same-length-3 c = c .before .loop .inv .2 ∙ sym (c .before .before .before .before .before .before .before .before .before .before .pre .2)
@@ -108,23 +135,5 @@ returns c =
 pub change-rows-spec : {M : Type 1} → statement M
 change-rows-spec =
     tie.close
-    (tie.spec
-    Inv-loop
-    μ-loop
-    mul-n
-    loop-holds
-    mul-a
-    add-e
-    change-row-requires
-    sub-write-row
-    part-write-row-start
-    part-write-row-end
-    write-row-requires
-    (λ c. search needs)
-    loop-less
-    loop-again
-    same-length
-    same-length-2
-    same-length-3
-    same-length-4
-    returns)
+    (tie.spec Inv-loop μ-loop mul-n loop-holds mul-a add-e change-row-requires sub-write-row part-write-row-start part-write-row-end
+    write-row-requires (λ c. search needs) loop-less loop-again same-length same-length-2 same-length-3 same-length-4 returns)

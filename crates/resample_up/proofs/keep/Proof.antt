@@ -18,10 +18,13 @@ room : (c : tie.Start) → c .args .k % 2 * 8192 + c .args .width ≤ 16384
 room c = omega (arith, c .pre .0 .kept .fits)
 
 -- and the part that is lent has its size
-size : (c : tie.Start) → length (take (c .args .k % 2 * 8192 + c .args .width - c .args .k % 2 * 8192) (drop (c .args .k % 2 * 8192) (c .args .rows .now))) ≡ c .args .width
+size : (c : tie.Start)
+    → length (take (c .args .k % 2 * 8192 + c .args .width - c .args .k % 2 * 8192) (drop (c .args .k % 2 * 8192) (c .args .rows .now))) ≡ c .args .width
 size c =
     let at = c .args .k % 2 * 8192 in
-    rw (part-size at (c .args .width)) (length-take-le (c .args .width) (drop at (c .args .rows .now)) (omega (arith, room c, c .pre .0 .kept .rows-room, length-drop at (c .args .rows .now))))
+    rw (part-size at (c .args .width))
+    (length-take-le (c .args .width) (drop at (c .args .rows .now))
+    (omega (arith, room c, c .pre .0 .kept .rows-room, length-drop at (c .args .rows .now))))
 
 returns : tie.Need-returns
 returns c =
@@ -37,10 +40,16 @@ mul-wide-row : tie.Need-mul-wide-row
 mul-wide-row c = record { fits = omega (arith, room (c .before .before .before .before .before .before .before .before)) }
 
 part-wide-row-end : tie.Need-part-wide-row-end
-part-wide-row-end c = omega (arith, room (c .before .before .before .before .before .before .before .before), c .before .before .before .before .before .before .before .before .pre .0 .kept .rows-room)
+part-wide-row-end c =
+    omega (
+      arith,
+      room (c .before .before .before .before .before .before .before .before),
+      c .before .before .before .before .before .before .before .before .pre .0 .kept .rows-room,
+    )
 
 wide-row-requires : tie.Need-wide-row-requires
-wide-row-requires c κs = let p = c .before .before .before .before .before .before .before .before .before in (p .pre .1, p .pre .0 .plane, rw (size p) (p .pre .0 .tables))
+wide-row-requires c κs = let p = c .before .before .before .before .before .before .before .before .before in
+    (p .pre .1, p .pre .0 .plane, rw (size p) (p .pre .0 .tables))
 
 returns-2 : tie.Need-returns-2
 unfolding onPart
@@ -61,23 +70,6 @@ returns-2 c =
 pub keep-spec : {M : Type 1} → statement M
 keep-spec =
     tie.close
-    (tie.spec
-    (λ c. search needs)
-    (λ c. search needs)
-    (λ c. search needs)
-    (λ c. search needs)
-    (λ c. search needs)
-    returns
-    add-end
-    mul-wide-row
-    (λ c. search needs)
-    (λ c. search needs)
-    part-wide-row-end
-    wide-row-requires
-    (λ c. search needs)
-    (λ c. search needs)
-    (λ c. search needs)
-    (λ c. search needs)
-    (λ c. search needs)
-    (λ c. search needs)
-    returns-2)
+    (tie.spec (λ c. search needs) (λ c. search needs) (λ c. search needs) (λ c. search needs) (λ c. search needs) returns add-end
+    mul-wide-row (λ c. search needs) (λ c. search needs) part-wide-row-end wide-row-requires (λ c. search needs) (λ c. search needs)
+    (λ c. search needs) (λ c. search needs) (λ c. search needs) (λ c. search needs) returns-2)

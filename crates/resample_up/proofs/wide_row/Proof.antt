@@ -38,18 +38,10 @@ same-length c = ap length (c .before .before .row-across .ensures) ∙ length-ta
 returns : tie.Need-returns
 returns c =
     let p = c .before .before .before .before .before .before .before .before .before .before in
-    widened (length (now (p .args .out))) (now (p .args .change)) (p .args .k) _ _ (omega arith) (part-row 256 (now (p .args .change)) (p .args .k)) (c .before .before .row-across .ensures)
+    widened (length (now (p .args .out))) (now (p .args .change)) (p .args .k) _ _ (omega arith) (part-row 256 (now (p .args .change)) (p .args .k))
+    (c .before .before .row-across .ensures)
 
 pub wide-row-spec : {M : Type 1} → statement M
 wide-row-spec =
     tie.close
-    (tie.spec
-    mul-a
-    add-e
-    mul-row-across
-    sub-row-across
-    part-row-across-start
-    part-row-across-end
-    row-across-requires
-    same-length
-    returns)
+    (tie.spec mul-a add-e mul-row-across sub-row-across part-row-across-start part-row-across-end row-across-requires same-length returns)

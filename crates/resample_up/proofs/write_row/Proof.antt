@@ -16,14 +16,22 @@ use Rattle.resample_up.proofs.write_row.Statement.{statement}
 use Rattle.resample_up.proofs.write_row.Tie as tie
 
 abbrev Inv-loop : tie.InvT-loop
-Inv-loop row₀ channels delta x₀ x-end row x = (x-end ≡ length delta) × (x ≤ x-end) × (length row ≡ length row₀) × (row ≡ filled (changedAt channels (λ k. getD delta k nan) row₀) (x * channels) row₀)
+Inv-loop row₀ channels delta x₀ x-end row x =
+    (x-end ≡ length delta) × (x ≤ x-end) × (length row ≡ length row₀) × (row ≡ filled (changedAt channels (λ k. getD delta k nan) row₀) (x * channels) row₀)
 
 abbrev μ-loop : tie.MeasureT-loop
 μ-loop row₀ channels delta x₀ x-end row x = x-end - x
 
 -- in a turn the pixel ends within the row
-fits : (c : tie.In-loop Inv-loop μ-loop) → c .before .loop .x * c .before .before .before .before .args .channels + c .before .before .before .before .args .channels ≤ length (now (c .before .before .before .before .args .row))
-fits c = let h : c .before .loop .x < length (now (c .before .before .before .before .args .delta)) = omega arith in omega (arith, pixel-fits (c .before .loop .x) (c .before .before .before .before .args .channels) (length (now (c .before .before .before .before .args .delta))) h)
+fits : (c : tie.In-loop Inv-loop μ-loop)
+    → c .before .loop .x * c .before .before .before .before .args .channels + c .before .before .before .before .args .channels ≤ length
+    (now (c .before .before .before .before .args .row))
+fits c = let h : c .before .loop .x < length (now (c .before .before .before .before .args .delta)) = omega arith in
+    omega (
+      arith,
+      pixel-fits (c .before .loop .x) (c .before .before .before .before .args .channels)
+          (length (now (c .before .before .before .before .args .delta))) h,
+    )
 
 loop-holds : tie.Need-loop-holds Inv-loop μ-loop
 loop-holds c = (search needs, search needs, refl, rw zero-mul (filled-none _ _))
@@ -68,7 +76,10 @@ loop-again c =
       search needs,
       search needs,
       simp length-set (at .inv .2),
-      pixel-more (p .args .channels) (λ k. getD (now (p .args .delta)) k nan) (now (p .args .row)) (at .x) (p .pre .0) (p .pre .1) (fits (c .before .before .before .before .before .before .before)) (at .row) (c .before .before .before .before .changed .result) (c .before .before .changed2 .result) (c .changed3 .result) (at .inv .3) (c .before .before .before .before .changed .ensures) (c .before .before .changed2 .ensures) (c .changed3 .ensures),
+      pixel-more (p .args .channels) (λ k. getD (now (p .args .delta)) k nan) (now (p .args .row)) (at .x) (p .pre .0) (p .pre .1)
+          (fits (c .before .before .before .before .before .before .before)) (at .row) (c .before .before .before .before .changed .result)
+          (c .before .before .changed2 .result) (c .changed3 .result) (at .inv .3) (c .before .before .before .before .changed .ensures)
+          (c .before .before .changed2 .ensures) (c .changed3 .ensures),
     )
 
 returns : tie.Need-returns Inv-loop μ-loop
@@ -81,28 +92,6 @@ returns c =
 pub write-row-spec : {M : Type 1} → statement M
 write-row-spec =
     tie.close
-    (tie.spec
-    Inv-loop
-    μ-loop
-    loop-holds
-    mul-p
-    (λ c. search needs)
-    (λ c. search needs)
-    slice-read-changed
-    (λ c κs. search needs)
-    slice-write-row
-    add-changed
-    slice-read-changed-2
-    (λ c κs. search needs)
-    add-row
-    slice-write-row-2
-    add-changed-2
-    slice-read-changed-3
-    (λ c κs. search needs)
-    add-row-2
-    slice-write-row-3
-    (λ c. search needs)
-    (λ c. search needs)
-    loop-again
-    (λ c. search needs)
-    returns)
+    (tie.spec Inv-loop μ-loop loop-holds mul-p (λ c. search needs) (λ c. search needs) slice-read-changed (λ c κs. search needs)
+    slice-write-row add-changed slice-read-changed-2 (λ c κs. search needs) add-row slice-write-row-2 add-changed-2 slice-read-changed-3
+    (λ c κs. search needs) add-row-2 slice-write-row-3 (λ c. search needs) (λ c. search needs) loop-again (λ c. search needs) returns)

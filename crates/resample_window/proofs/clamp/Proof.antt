@@ -18,7 +18,8 @@ order : (c : tie.Else1) → ltZ (c .before .args .j) (pos 0) ≡ false
 order c = rw (toZ-ofZ w64 (c .before .args .j) (c .before .fits .j)) at (c .if1 .left)
 
 cast-k : tie.Need-cast-k
-cast-k c = rw (toZ-ofZ w64 (c .before .args .j) (c .before .fits .j)) (at-least-zero (c .before .args .j) (order c), record { fits = omega (arith, natAbs-le (c .before .args .j) (c .before .fits .j .sfits)) })
+cast-k c = rw (toZ-ofZ w64 (c .before .args .j) (c .before .fits .j))
+    (at-least-zero (c .before .args .j) (order c), record { fits = omega (arith, natAbs-le (c .before .args .j) (c .before .fits .j .sfits)) })
 
 returns-2 : tie.Need-returns-2
 returns-2 c =

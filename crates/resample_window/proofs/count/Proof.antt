@@ -16,7 +16,8 @@ use Rattle.resample_window.proofs.count.Tie as tie
 
 returns : tie.Need-returns
 unfolding numbers
-returns c = rw (rw (toZ-ofZ w64 (c .before .args .first) (c .before .fits .first), toZ-ofZ w64 (c .before .args .last) (c .before .fits .last)) at (c .if1 .taken)) refl
+returns c = rw (rw (toZ-ofZ w64 (c .before .args .first) (c .before .fits .first), toZ-ofZ w64 (c .before .args .last) (c .before .fits .last)) at
+    (c .if1 .taken)) refl
 
 sub-result : tie.Need-sub-result
 sub-result c =
@@ -25,18 +26,22 @@ sub-result c =
 
 -- the difference, as the machine reads it back
 back : (c : tie.Else1)
-    → toZ w64 (ofZ w64 (toZ w64 (ofZ w64 (c .before .args .last)) -ℤ toZ w64 (ofZ w64 (c .before .args .first)))) ≡ c .before .args .last -ℤ c .before .args .first
+    → toZ w64 (ofZ w64 (toZ w64 (ofZ w64 (c .before .args .last)) -ℤ toZ w64 (ofZ w64 (c .before .args .first))))
+    ≡ c .before .args .last -ℤ c .before .args .first
 back c =
     rw (toZ-ofZ w64 (c .before .args .first) (c .before .fits .first), toZ-ofZ w64 (c .before .args .last) (c .before .fits .last))
-    (toZ-ofZ w64 (c .before .args .last -ℤ c .before .args .first) (diff-fits (c .before .args .first) (c .before .args .last) (c .before .pre .0) (c .before .pre .1)))
+    (toZ-ofZ w64 (c .before .args .last -ℤ c .before .args .first)
+    (diff-fits (c .before .args .first) (c .before .args .last) (c .before .pre .0) (c .before .pre .1)))
 
 order : (c : tie.Else1) → ltZ (c .before .args .last) (c .before .args .first) ≡ false
 order c = rw (toZ-ofZ w64 (c .before .args .first) (c .before .fits .first), toZ-ofZ w64 (c .before .args .last) (c .before .fits .last)) at (c .if1 .left)
 
 cast-result : tie.Need-cast-result
 cast-result c =
-    rw (back c)
-    (diff-sign (c .before .args .first) (c .before .args .last) (order c), fits-le (diff-size (c .before .args .first) (c .before .args .last) (c .before .pre .0) (c .before .pre .1)) (fits-lit tt))
+    rw (back c) (
+      diff-sign (c .before .args .first) (c .before .args .last) (order c),
+      fits-le (diff-size (c .before .args .first) (c .before .args .last) (c .before .pre .0) (c .before .pre .1)) (fits-lit tt),
+    )
 
 add-result : tie.Need-add-result
 add-result c = rw (back c) (record { fits = omega (arith, diff-size (c .before .args .first) (c .before .args .last) (c .before .pre .0) (c .before .pre .1)) })

@@ -9,7 +9,8 @@ use Rattle.resample_window.proofs.nth.Statement.{statement}
 use Rattle.resample_window.proofs.nth.Tie as tie
 
 add-result : tie.Need-add-result
-add-result c = rw (toZ-ofZ w64 (c .args .first) (c .fits .first), toZ-pos w64 (c .args .k) (omega arith)) (sum-fits (c .args .first) (c .args .k) (c .pre .0) (c .pre .1))
+add-result c = rw (toZ-ofZ w64 (c .args .first) (c .fits .first), toZ-pos w64 (c .args .k) (omega arith))
+    (sum-fits (c .args .first) (c .args .k) (c .pre .0) (c .pre .1))
 
 returns : tie.Need-returns
 returns c =

@@ -21,12 +21,14 @@ use Rattle.resample_window.proofs.push.Tie as tie
 
 abbrev Inv-loop : tie.InvT-loop
 Inv-loop w src n index₀ weight₀ first last count at₀ k₀ index weight at k =
-    (k ≤ count) × (at ≡ n + length (tapsTo w src k)) × (index ≡ paste index₀ n (tapSources (tapsOf w src)) (length (tapsTo w src k))) × (weight ≡ paste weight₀ n (tapWeights (tapsOf w src)) (length (tapsTo w src k))) × (length index ≡ length index₀) × (length weight ≡ length weight₀)
+    (k ≤ count) × (at ≡ n + length (tapsTo w src k)) × (index ≡ paste index₀ n (tapSources (tapsOf w src)) (length (tapsTo w src k)))
+    × (weight ≡ paste weight₀ n (tapWeights (tapsOf w src)) (length (tapsTo w src k))) × (length index ≡ length index₀) × (length weight ≡ length weight₀)
 
 abbrev μ-loop : tie.MeasureT-loop
 μ-loop w src n index₀ weight₀ first last count at₀ k₀ index weight at k = count - k
 
-counted : (c : tie.After-count Inv-loop μ-loop) → c .count .result ≡ numbers (c .before .before .before .before .before .args .w .first) (c .before .before .before .before .before .args .w .last)
+counted : (c : tie.After-count Inv-loop μ-loop)
+    → c .count .result ≡ numbers (c .before .before .before .before .before .args .w .first) (c .before .before .before .before .before .args .w .last)
 counted c =
     let w = c .before .before .before .before .before .args .w in
     let small = c .before .before .before .before .before .pre .0 in
@@ -35,8 +37,14 @@ counted c =
 loop-holds : tie.Need-loop-holds Inv-loop μ-loop
 unfolding tapsTo
 loop-holds c =
-    let a = c .before .before .before .before .before .args in
-    (omega arith, sym (add-zero (a .n)), paste-zero (a .index .now) (a .n) (tapSources (tapsOf (a .w) (a .src))), paste-zero (a .weight .now) (a .n) (tapWeights (tapsOf (a .w) (a .src))), refl, refl)
+    let a = c .before .before .before .before .before .args in (
+      omega arith,
+      sym (add-zero (a .n)),
+      paste-zero (a .index .now) (a .n) (tapSources (tapsOf (a .w) (a .src))),
+      paste-zero (a .weight .now) (a .n) (tapWeights (tapsOf (a .w) (a .src))),
+      refl,
+      refl,
+    )
 
 small-k : (c : tie.In-loop Inv-loop μ-loop) → c .before .loop .k ≤ 2 ^ 32
 small-k c =
@@ -51,21 +59,24 @@ nth-requires c κs =
     (rw (toZ-ofZ w64 (w .first) (small-fits (w .first) (small .0))) (small .0), small-k c)
 
 -- the number of the turn, as the calls are passed it, and its weight
-number : (c : tie.After-nth Inv-loop μ-loop) → toZ w64 (ofZ w64 (c .nth .result)) ≡ c .before .before .before .before .before .before .before .before .args .w .first +ℤ pos (c .before .before .loop .k)
+number : (c : tie.After-nth Inv-loop μ-loop)
+    → toZ w64 (ofZ w64 (c .nth .result)) ≡ c .before .before .before .before .before .before .before .before .args .w .first +ℤ pos (c .before .before .loop .k)
 number c =
     let w = c .before .before .before .before .before .before .before .before .args .w in
     let small = c .before .before .before .before .before .before .before .before .pre .0 in
     passed (c .nth .result) (w .first) (c .before .before .loop .k) (small .0) (small-k (c .before)) (c .nth .ensures)
 
 weighed : (c : tie.After-weight Inv-loop μ-loop)
-    → c .weight .result ≡ weightOf (c .before .before .before .before .before .before .before .before .before .args .w) (c .before .before .before .before .before .before .before .before .before .args .w .first +ℤ pos (c .before .before .before .loop .k))
+    → c .weight .result ≡ weightOf (c .before .before .before .before .before .before .before .before .before .args .w)
+    (c .before .before .before .before .before .before .before .before .before .args .w .first +ℤ pos (c .before .before .before .loop .k))
 weighed c = c .weight .ensures ∙ ap (weightOf (c .before .before .before .before .before .before .before .before .before .args .w)) (number (c .before))
 
 loop-again : tie.Need-loop-again Inv-loop μ-loop
 loop-again c =
     let a = c .before .before .before .before .before .before .before .before .before .before .before .args in
     let k = c .before .before .before .before .before .loop .k in
-    let e : tapsTo (a .w) (a .src) k ≡ tapsTo (a .w) (a .src) (k + 1) = taps-without (a .w) (a .src) k (sym (weighed (c .before .before)) ∙ c .enum-told .given .1) in
+    let e : tapsTo (a .w) (a .src) k ≡ tapsTo (a .w) (a .src) (k + 1) =
+    taps-without (a .w) (a .src) k (sym (weighed (c .before .before)) ∙ c .enum-told .given .1) in
     let inv = c .before .before .before .before .before .loop .inv in
     (omega arith, rw (← e) (inv .1), rw (← e) (inv .2), rw (← e) (inv .3), inv .4, inv .5)
 
@@ -75,14 +86,24 @@ clamp-requires c κs = c .before .before .before .before .before .before .before
 cast-index : tie.Need-cast-index Inv-loop μ-loop
 cast-index c =
     let p = c .before .before .before .before .before .before .before .before .before .before .before .before .before in
-    record { fits = omega (arith, c .clamp .ensures, clamp-below (toZ w64 (ofZ w64 (c .before .before .before .before .before .nth .result))) (p .args .src) (p .pre .1)) }
+    record {
+      fits = omega (
+        arith,
+        c .clamp .ensures,
+        clamp-below (toZ w64 (ofZ w64 (c .before .before .before .before .before .nth .result))) (p .args .src) (p .pre .1),
+      );
+    }
 
 weight-of : (c : tie.After-clamp Inv-loop μ-loop)
-    → weightOf (c .before .before .before .before .before .before .before .before .before .before .before .before .before .args .w) (c .before .before .before .before .before .before .before .before .before .before .before .before .before .args .w .first +ℤ pos (c .before .before .before .before .before .before .before .loop .k)) ≡ Of (c .before .before .q .given .0 .0)
+    → weightOf (c .before .before .before .before .before .before .before .before .before .before .before .before .before .args .w)
+    (c .before .before .before .before .before .before .before .before .before .before .before .before .before .args .w .first +ℤ pos
+    (c .before .before .before .before .before .before .before .loop .k)) ≡ Of (c .before .before .q .given .0 .0)
 weight-of c = sym (weighed (c .before .before .before .before)) ∙ c .before .before .q .given .1
 
 -- there is room for the tap of the turn
-room : (c : tie.After-clamp Inv-loop μ-loop) → c .before .before .before .before .before .before .before .loop .at < length (c .before .before .before .before .before .before .before .before .before .before .before .before .before .args .index .now)
+room : (c : tie.After-clamp Inv-loop μ-loop)
+    → c .before .before .before .before .before .before .before .loop .at < length
+    (c .before .before .before .before .before .before .before .before .before .before .before .before .before .args .index .now)
 room c =
     let p = c .before .before .before .before .before .before .before .before .before .before .before .before .before in
     let k = c .before .before .before .before .before .before .before .loop .k in
@@ -113,14 +134,17 @@ loop-again-2 c =
     let all = numbers (w .first) (w .last) in
     let t : Tap = record { from = clampOf (a .src) (w .first +ℤ pos (at .k)); weight = c .before .before .q .given .0 .0 } in
     let k : at .k < all = omega (arith, counted (c .before .before .before .before .before .before .before .before)) in
-    let one : length (tapsTo w (a .src) (at .k + 1)) ≡ m + 1 = ap length (taps-with w (a .src) (at .k) (t .weight) (weight-of c)) ∙ length-append (tapsTo w (a .src) (at .k)) (t ∷ []) in
+    let one : length (tapsTo w (a .src) (at .k + 1)) ≡ m + 1 =
+    ap length (taps-with w (a .src) (at .k) (t .weight) (weight-of c)) ∙ length-append (tapsTo w (a .src) (at .k)) (t ∷ []) in
     let is : getD (tapsOf w (a .src)) m t ≡ t = tap-at w (a .src) (at .k) all (t .weight) t k (weight-of c) in
     let less : m < length (tapsOf w (a .src)) = tap-room w (a .src) (at .k) all (t .weight) k (weight-of c) in
     let from : c .clamp .result ≡ t .from = c .clamp .ensures ∙ ap (clampOf (a .src)) (number (c .before .before .before .before .before)) in (
       omega arith,
       omega arith,
-      rw (one, at .inv .1, from) (laid-more (λ t. t .from) (a .index .now) (a .n) (tapsOf w (a .src)) m t (at .index) (omega (arith, room c)) less is (at .inv .2)),
-      rw (one, at .inv .1) (laid-more (λ t. t .weight) (a .weight .now) (a .n) (tapsOf w (a .src)) m t (at .weight) (omega (arith, room c)) less is (at .inv .3)),
+      rw (one, at .inv .1, from)
+          (laid-more (λ t. t .from) (a .index .now) (a .n) (tapsOf w (a .src)) m t (at .index) (omega (arith, room c)) less is (at .inv .2)),
+      rw (one, at .inv .1) (laid-more (λ t. t .weight) (a .weight .now) (a .n) (tapsOf w (a .src)) m t (at .weight) (omega (arith, room c)) less is
+          (at .inv .3)),
       length-set (at .index) (at .at) (c .clamp .result) ∙ at .inv .4,
       length-set (at .weight) (at .at) (t .weight) ∙ at .inv .5,
     )
@@ -135,28 +159,6 @@ returns c =
 pub push-spec : {M : Type 1} → statement M
 push-spec =
     tie.close
-    (tie.spec
-    Inv-loop
-    μ-loop
-    (λ c κs. search needs)
-    loop-holds
-    nth-requires
-    (λ c κs. search needs)
-    (λ c. search needs)
-    (λ c. search needs)
-    (λ c. search needs)
-    (λ c. search needs)
-    loop-again
-    clamp-requires
-    cast-index
-    mul-index
-    slice-write-index
-    mul-weight
-    slice-write-weight
-    add-at
-    (λ c. search needs)
-    (λ c. search needs)
-    loop-again-2
-    (λ c. search needs)
-    (λ c. search needs)
-    returns)
+    (tie.spec Inv-loop μ-loop (λ c κs. search needs) loop-holds nth-requires (λ c κs. search needs) (λ c. search needs) (λ c. search needs)
+    (λ c. search needs) (λ c. search needs) loop-again clamp-requires cast-index mul-index slice-write-index mul-weight slice-write-weight
+    add-at (λ c. search needs) (λ c. search needs) loop-again-2 (λ c. search needs) (λ c. search needs) returns)

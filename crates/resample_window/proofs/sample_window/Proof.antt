@@ -24,7 +24,10 @@ unfolding inFloat
 int-to-float-center c = le→leb (c .before .before .before .args .i) (2 ^ 53) (omega arith)
 
 is-unsummed : (c : tie.After-unsummed)
-    → c .unsummed .result ≡ unsummed (centerOf (c .before .before .before .before .before .args .src) (c .before .before .before .before .before .args .dst) (c .before .before .before .before .before .args .i)) (supportOf (c .before .before .before .before .before .args .src) (c .before .before .before .before .before .args .dst))
+    → c .unsummed .result
+    ≡ unsummed (centerOf (c .before .before .before .before .before .args .src) (c .before .before .before .before .before .args .dst)
+    (c .before .before .before .before .before .args .i))
+    (supportOf (c .before .before .before .before .before .args .src) (c .before .before .before .before .before .args .dst))
 unfolding centerOf scaleOf supportOf ofBits
 is-unsummed c =
     let a = c .before .before .before .before .before .args in
@@ -46,4 +49,7 @@ returns c =
     c .summed .ensures ∙ (ap withSum (is-unsummed (c .before)) ∙ sym (window-sized (a .src) (a .dst) (a .i) (p .0) (p .1) (p .2) (p .3) (p .4)))
 
 pub sample-window-spec : {M : Type 1} → statement M
-sample-window-spec = tie.close (tie.spec int-to-float-scale int-to-float-scale-2 int-to-float-center (λ c κs. search needs) (λ c κs. search needs) summed-requires returns)
+sample-window-spec =
+    tie.close
+    (tie.spec int-to-float-scale int-to-float-scale-2 int-to-float-center (λ c κs. search needs) (λ c κs. search needs) summed-requires
+    returns)

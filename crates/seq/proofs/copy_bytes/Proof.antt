@@ -24,8 +24,12 @@ loop-again c =
     let start = c .before .before .before .args in
     let i = c .before .before .loop .i in
     let room : start .at + i < length (now (start .to)) = omega arith in
-    let more : i < length (now (start .from)) = omega arith in
-    (search needs, search needs, rw (c .before .before .loop .inv .2, add-one) (paste-suc (now (start .to)) (start .at) (now (start .from)) i 0 room more), search needs)
+    let more : i < length (now (start .from)) = omega arith in (
+      search needs,
+      search needs,
+      rw (c .before .before .loop .inv .2, add-one) (paste-suc (now (start .to)) (start .at) (now (start .from)) i 0 room more),
+      search needs,
+    )
 
 returns : tie.Need-returns Inv-loop μ-loop
 returns c =
@@ -35,15 +39,5 @@ returns c =
 pub copy-bytes-spec : {M : Type 1} → statement M
 copy-bytes-spec =
     tie.close
-    (tie.spec
-    Inv-loop
-    μ-loop
-    loop-holds
-    (λ c. search needs)
-    (λ c. search needs)
-    (λ c. search needs)
-    (λ c. search needs)
-    (λ c. search needs)
-    loop-again
-    (λ c. search needs)
-    returns)
+    (tie.spec Inv-loop μ-loop loop-holds (λ c. search needs) (λ c. search needs) (λ c. search needs) (λ c. search needs) (λ c. search needs)
+    loop-again (λ c. search needs) returns)

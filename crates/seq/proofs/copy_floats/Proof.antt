@@ -25,8 +25,12 @@ loop-again c =
     let start = c .before .before .before .args in
     let k = c .before .before .loop .k in
     let room : start .at + k < length (now (start .to)) = omega arith in
-    let more : k < length (now (start .from)) = omega arith in
-    (search needs, search needs, rw (c .before .before .loop .inv .2, add-one) (paste-suc (now (start .to)) (start .at) (now (start .from)) k nan room more), search needs)
+    let more : k < length (now (start .from)) = omega arith in (
+      search needs,
+      search needs,
+      rw (c .before .before .loop .inv .2, add-one) (paste-suc (now (start .to)) (start .at) (now (start .from)) k nan room more),
+      search needs,
+    )
 
 returns : tie.Need-returns Inv-loop μ-loop
 returns c =
@@ -36,17 +40,5 @@ returns c =
 pub copy-floats-spec : {M : Type 1} → statement M
 copy-floats-spec =
     tie.close
-    (tie.spec
-    Inv-loop
-    μ-loop
-    loop-holds
-    (λ c. search needs)
-    (λ c. search needs)
-    (λ c. search needs)
-    (λ c. search needs)
-    (λ c. search needs)
-    (λ c. search needs)
-    (λ c. search needs)
-    loop-again
-    (λ c. search needs)
-    returns)
+    (tie.spec Inv-loop μ-loop loop-holds (λ c. search needs) (λ c. search needs) (λ c. search needs) (λ c. search needs) (λ c. search needs)
+    (λ c. search needs) (λ c. search needs) loop-again (λ c. search needs) returns)

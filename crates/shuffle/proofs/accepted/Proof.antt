@@ -24,5 +24,4 @@ returns-2 c =
     limit-wraps (start .value) (start .range) w h (omega (arith, c .wrapping-sub-u64 .ensures))
 
 pub accepted-spec : {M : Type 1} → statement M
-accepted-spec =
-    tie.close (tie.spec returns (λ c κs. search needs) (λ c. search needs) sub-result returns-2)
+accepted-spec = tie.close (tie.spec returns (λ c κs. search needs) (λ c. search needs) sub-result returns-2)

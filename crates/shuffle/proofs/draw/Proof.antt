@@ -22,7 +22,8 @@ Inv-loop key from range nonce at₀ at = drawn (streamOf key) range (drawsFrom a
 abbrev μ-loop : tie.MeasureT-loop
 μ-loop key from range nonce at₀ at = leftAt at
 
-granted : (c : tie.After-next Inv-loop μ-loop) → let at = c .before .before .before .before .before .before .loop .at in (8 ≤ leftAt at) × (c .next .given .0 .0 ≡ at + 8)
+granted : (c : tie.After-next Inv-loop μ-loop) → let at = c .before .before .before .before .before .before .loop .at in
+    (8 ≤ leftAt at) × (c .next .given .0 .0 ≡ at + 8)
 granted c =
     let at = c .before .before .before .before .before .before .loop .at in
     let next = c .next .given .0 .0 in
@@ -30,7 +31,10 @@ granted c =
     let enough : 8 ≤ leftAt at = next-granted at 8 next answer in
     (enough, cc (applied-next at 8 enough))
 
-drawn-value : (c : tie.After-value-of Inv-loop μ-loop) → c .value-of .result ≡ valueAt (streamOf (now (c .before .before .before .before .before .before .before .before .before .before .args .key))) (c .before .before .before .before .before .before .before .before .before .loop .at)
+drawn-value : (c : tie.After-value-of Inv-loop μ-loop)
+    → c .value-of .result
+    ≡ valueAt (streamOf (now (c .before .before .before .before .before .before .before .before .before .before .args .key)))
+    (c .before .before .before .before .before .before .before .before .before .loop .at)
 drawn-value c =
     c .value-of .ensures
     ∙ (ap (λ (l : List ℕ). valueAt (λ k. getD l k 0) 0) (c .before .before .before .before .before .before .apply .ensures .1)
@@ -52,7 +56,8 @@ returns-2 c =
     let start = c .before .before .before .before .before .before .before .before .before .before .before .before .args in
     let g = granted (c .before .before .before .before .before) in
     let v = drawn-value (c .before .before) in
-    let t : ltb (valueAt (streamOf (now (start .key))) (l .at)) (limit (start .range)) ≡ true = sym (ap (λ (n : ℕ). ltb n (limit (start .range))) v) ∙ (sym (c .before .accepted .ensures) ∙ c .if1 .taken) in
+    let t : ltb (valueAt (streamOf (now (start .key))) (l .at)) (limit (start .range)) ≡ true =
+    sym (ap (λ (n : ℕ). ltb n (limit (start .range))) v) ∙ (sym (c .before .accepted .ensures) ∙ c .if1 .taken) in
     rw (v, g .1) (sym (draws-found (streamOf (now (start .key))) (start .range) (l .at) (g .0) t) ∙ l .inv)
 
 loop-less : tie.Need-loop-less Inv-loop μ-loop
@@ -64,24 +69,12 @@ loop-again c =
     let start = c .before .before .before .before .before .before .before .before .before .before .before .before .args in
     let g = granted (c .before .before .before .before .before) in
     let v = drawn-value (c .before .before) in
-    let t : ltb (valueAt (streamOf (now (start .key))) (l .at)) (limit (start .range)) ≡ false = sym (ap (λ (n : ℕ). ltb n (limit (start .range))) v) ∙ (sym (c .before .accepted .ensures) ∙ c .if1 .left) in
+    let t : ltb (valueAt (streamOf (now (start .key))) (l .at)) (limit (start .range)) ≡ false =
+    sym (ap (λ (n : ℕ). ltb n (limit (start .range))) v) ∙ (sym (c .before .accepted .ensures) ∙ c .if1 .left) in
     rw (g .1) (sym (draws-again (streamOf (now (start .key))) (start .range) (l .at) (g .0) t) ∙ l .inv)
 
 pub draw-spec : {M : Type 1} → statement M
 draw-spec =
     tie.close
-    (tie.spec
-    Inv-loop
-    μ-loop
-    (λ c. search needs)
-    (λ c. search needs)
-    (λ c κs. search needs)
-    (λ c. search needs)
-    (λ c. search needs)
-    returns
-    (λ c κs. search needs)
-    (λ c κs. search needs)
-    rem-t15
-    returns-2
-    loop-less
-    loop-again)
+    (tie.spec Inv-loop μ-loop (λ c. search needs) (λ c. search needs) (λ c κs. search needs) (λ c. search needs) (λ c. search needs) returns
+    (λ c κs. search needs) (λ c κs. search needs) rem-t15 returns-2 loop-less loop-again)

@@ -11,13 +11,20 @@ use Rattle.shuffle.proofs.lay_out.Statement.{statement}
 use Rattle.shuffle.proofs.lay_out.Tie as tie
 
 abbrev Inv-loop : tie.InvT-loop
-Inv-loop found entries₀ k₀ k-end entries k = (k ≤ length entries₀) × (k-end ≡ length entries₀) × (length entries ≡ length entries₀) × (entries ≡ filled (λ (i : ℕ). getD found i 0) k entries₀)
+Inv-loop found entries₀ k₀ k-end entries k =
+    (k ≤ length entries₀) × (k-end ≡ length entries₀) × (length entries ≡ length entries₀) × (entries ≡ filled (λ (i : ℕ). getD found i 0) k entries₀)
 
 abbrev μ-loop : tie.MeasureT-loop
 μ-loop found entries₀ k₀ k-end entries k = length entries₀ - k
 
 loop-holds : tie.Need-loop-holds Inv-loop μ-loop
-loop-holds c = (search needs, search needs, search needs, filled-none (λ (i : ℕ). getD (c .before .before .args .found .now) i 0) (c .before .before .args .entries .now))
+loop-holds c = (
+  search needs,
+  search needs,
+  search needs,
+  filled-none (λ (i : ℕ). getD (c .before .before .args .found .now) i 0)
+      (c .before .before .args .entries .now),
+)
 
 loop-again : tie.Need-loop-again Inv-loop μ-loop
 loop-again c =
@@ -37,15 +44,5 @@ returns c =
 pub lay-out-spec : {M : Type 1} → statement M
 lay-out-spec =
     tie.close
-    (tie.spec
-    Inv-loop
-    μ-loop
-    loop-holds
-    (λ c κs. search needs)
-    (λ c. search needs)
-    (λ c. search needs)
-    (λ c. search needs)
-    (λ c. search needs)
-    loop-again
-    (λ c. search needs)
-    returns)
+    (tie.spec Inv-loop μ-loop loop-holds (λ c κs. search needs) (λ c. search needs) (λ c. search needs) (λ c. search needs)
+    (λ c. search needs) loop-again (λ c. search needs) returns)

@@ -12,14 +12,16 @@ use Rattle.shuffle.proofs.permute.Statement.{statement}
 use Rattle.shuffle.proofs.permute.Tie as tie
 
 abbrev Inv-loop : tie.InvT-loop
-Inv-loop key count list₀ at₀ i₀ list at i = (i ≤ count) × (length list ≡ length list₀) × (made (streamOf key) (count - i) i at list ≡ made (streamOf key) count 0 0 list₀)
+Inv-loop key count list₀ at₀ i₀ list at i =
+    (i ≤ count) × (length list ≡ length list₀) × (made (streamOf key) (count - i) i at list ≡ made (streamOf key) count 0 0 list₀)
 
 abbrev μ-loop : tie.MeasureT-loop
 μ-loop key count list₀ at₀ i₀ list at i = count - i
 
 -- the number drawn reaches no further than the list
 below : (c : tie.After-r Inv-loop μ-loop) → let l = c .before .before .before .before .loop in c .r .given .0 .0 < length (l .list) - l .i
-below c = drawn-below _ _ _ _ _ _ (omega (arith, c .before .before .before .before .loop .inv, c .before .before .before .before .before .before .pre)) (sym (c .before .before .draw .ensures) ∙ c .r .given .1)
+below c = drawn-below _ _ _ _ _ _ (omega (arith, c .before .before .before .before .loop .inv, c .before .before .before .before .before .before .pre))
+    (sym (c .before .before .draw .ensures) ∙ c .r .given .1)
 
 loop-holds : tie.Need-loop-holds Inv-loop μ-loop
 loop-holds c =
@@ -37,8 +39,12 @@ returns : tie.Need-returns Inv-loop μ-loop
 returns c =
     let l = c .before .before .before .before .loop in
     let start = c .before .before .before .before .before .before .args in
-    let ended = sym (c .before .before .draw .ensures) ∙ c .enum-told .given .1 in
-    (search needs, l .inv .1, sym (made-end (streamOf (now (start .key))) (start .count - (l .i + 1)) (l .i) (l .at) (l .list) (start .count - l .i) (omega arith) ended) ∙ l .inv .2)
+    let ended = sym (c .before .before .draw .ensures) ∙ c .enum-told .given .1 in (
+      search needs,
+      l .inv .1,
+      sym
+          (made-end (streamOf (now (start .key))) (start .count - (l .i + 1)) (l .i) (l .at) (l .list) (start .count - l .i) (omega arith) ended) ∙ l .inv .2,
+    )
 
 place-of-requires : tie.Need-place-of-requires Inv-loop μ-loop
 place-of-requires c κs = omega (arith, below (c .before .before), c .before .before .before .before .before .before .loop .inv .1)
@@ -50,8 +56,14 @@ loop-again : tie.Need-loop-again Inv-loop μ-loop
 loop-again c =
     let l = c .before .before .before .before .before .before .before .before .before .before .loop in
     let start = c .before .before .before .before .before .before .before .before .before .before .before .before .args in
-    let found = sym (c .before .before .before .before .before .before .before .before .draw .ensures) ∙ c .before .before .before .before .before .before .r .given .1 in
-    (search needs, search needs, rw (c .before .before .exchange .ensures, c .before .before .before .place-of .ensures) (sym (made-more (streamOf (now (start .key))) (start .count - (l .i + 1)) (l .i) (l .at) (l .list) (start .count - l .i) _ _ (omega arith) found) ∙ l .inv .2))
+    let found = sym (c .before .before .before .before .before .before .before .before .draw .ensures)
+    ∙ c .before .before .before .before .before .before .r .given .1 in (
+      search needs,
+      search needs,
+      rw (c .before .before .exchange .ensures, c .before .before .before .place-of .ensures)
+          (sym (made-more (streamOf (now (start .key))) (start .count - (l .i + 1)) (l .i) (l .at) (l .list) (start .count - l .i) _ _ (omega arith) found)
+          ∙ l .inv .2),
+    )
 
 same-length-2 : tie.Need-same-length-2 Inv-loop μ-loop
 same-length-2 c = c .before .loop .inv .1
@@ -65,20 +77,5 @@ returns-2 c =
 pub permute-spec : {M : Type 1} → statement M
 permute-spec =
     tie.close
-    (tie.spec
-    Inv-loop
-    μ-loop
-    loop-holds
-    sub-draw
-    (λ c κs. search needs)
-    (λ c. search needs)
-    (λ c. search needs)
-    same-length
-    returns
-    place-of-requires
-    exchange-requires
-    (λ c. search needs)
-    (λ c. search needs)
-    loop-again
-    same-length-2
-    returns-2)
+    (tie.spec Inv-loop μ-loop loop-holds sub-draw (λ c κs. search needs) (λ c. search needs) (λ c. search needs) same-length returns
+    place-of-requires exchange-requires (λ c. search needs) (λ c. search needs) loop-again same-length-2 returns-2)

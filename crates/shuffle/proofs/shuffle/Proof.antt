@@ -21,7 +21,10 @@ slice-aggregate-permute : tie.Need-slice-aggregate-permute
 slice-aggregate-permute c = sym (held-length (c .before))
 
 -- the entries stand in the front of the part lent
-found-made : (c : tie.After-permute) → (c .permute .result ≤ length (c .permute .last .1 .1 .0)) × (take (c .permute .result) (c .permute .last .1 .1 .0) ≡ (let start = c .before .before .before .before .before .before .before .args in shuffleOf (now (start .key)) (start .len) (start .count) (length (now (start .entries)))))
+found-made : (c : tie.After-permute)
+    → (c .permute .result ≤ length (c .permute .last .1 .1 .0))
+    × (take (c .permute .result) (c .permute .last .1 .1 .0) ≡ (let start = c .before .before .before .before .before .before .before .args in
+    shuffleOf (now (start .key)) (start .len) (start .count) (length (now (start .entries)))))
 found-made c =
     let start = c .before .before .before .before .before .before .before .args in
     let held = c .before .before .before .before .before .held in
@@ -29,8 +32,13 @@ found-made c =
     let least2 = c .before .before .before .least2 in
     let room = length (now (start .entries)) in
     let wanted : least2 .result ≡ min (min (start .count) (held .result)) room = least2 .ensures ∙ ap (λ (n : ℕ). min n room) (least .ensures) in
-    let within : c .permute .result ≤ length (c .permute .last .1 .1 .0) = omega (arith, c .permute .ensures .0, c .permute .ensures .1, held-length (c .before .before)) in
-    (within, c .permute .ensures .2 ∙ (rw (wanted, c .before .before .rising .ensures) (front-made (now (start .key)) (start .len) (start .count) room (held .result) (held .ensures .0) (held .ensures .1))))
+    let within : c .permute .result ≤ length (c .permute .last .1 .1 .0) =
+    omega (arith, c .permute .ensures .0, c .permute .ensures .1, held-length (c .before .before)) in (
+      within,
+      c .permute .ensures .2
+          ∙ (rw (wanted, c .before .before .rising .ensures)
+          (front-made (now (start .key)) (start .len) (start .count) room (held .result) (held .ensures .0) (held .ensures .1))),
+    )
 
 permute-requires : tie.Need-permute-requires
 permute-requires c κs = omega (arith, held-length (c .before), c .before .before .before .least .ensures, c .before .before .least2 .ensures)
@@ -50,16 +58,6 @@ returns c =
 pub shuffle-spec : {M : Type 1} → statement M
 shuffle-spec =
     tie.close
-    (tie.spec
-    (λ c κs. search needs)
-    (λ c κs. search needs)
-    (λ c κs. search needs)
-    (λ c κs. search needs)
-    (λ c. search needs)
-    slice-aggregate-permute
-    permute-requires
-    array-share-prefix-list
-    slice-aggregate-lay-out
-    (λ c κs. search needs)
-    (λ c. search needs)
+    (tie.spec (λ c κs. search needs) (λ c κs. search needs) (λ c κs. search needs) (λ c κs. search needs) (λ c. search needs)
+    slice-aggregate-permute permute-requires array-share-prefix-list slice-aggregate-lay-out (λ c κs. search needs) (λ c. search needs)
     returns)

@@ -28,11 +28,4 @@ unfolding forms due
 returns-5 c = reaches (forms counted-char) 4 _ (omega arith)
 
 pub counting-after-spec : {M : Type 1} → statement M
-counting-after-spec =
-    tie.close
-    (tie.spec
-    returns
-    returns-2
-    returns-3
-    returns-4
-    returns-5)
+counting-after-spec = tie.close (tie.spec returns returns-2 returns-3 returns-4 returns-5)

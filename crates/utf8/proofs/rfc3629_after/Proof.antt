@@ -48,16 +48,4 @@ unfolding forms due
 returns-10 c = reaches (forms UTF8-char) 9 _ (omega arith)
 
 pub rfc3629-after-spec : {M : Type 1} → statement M
-rfc3629-after-spec =
-    tie.close
-    (tie.spec
-    returns
-    returns-2
-    returns-3
-    returns-4
-    returns-5
-    returns-6
-    returns-7
-    returns-8
-    returns-9
-    returns-10)
+rfc3629-after-spec = tie.close (tie.spec returns returns-2 returns-3 returns-4 returns-5 returns-6 returns-7 returns-8 returns-9 returns-10)

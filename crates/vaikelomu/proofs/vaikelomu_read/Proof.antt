@@ -14,10 +14,23 @@ returns c =
     let after = c .before .before .before .before .before .before in
     let handed = after .before .before in
     let start = handed .before .before .before .before .args in
-    let same : readingOf (handed .key-of .result) (handed .before .picture-of .result) (now (start .samples)) (now (start .work)) ≡ readFor (now (start .samples)) (start .width) (start .height) (start .channels) (start .keyed) (now (start .key)) (now (start .work)) = rw (handed .key-of .ensures, handed .before .picture-of .ensures) refl in
+    let same : readingOf (handed .key-of .result) (handed .before .picture-of .result) (now (start .samples)) (now (start .work))
+    ≡ readFor (now (start .samples)) (start .width) (start .height) (start .channels) (start .keyed) (now (start .key)) (now (start .work)) =
+    rw (handed .key-of .ensures, handed .before .picture-of .ensures) refl in
     let reading = after .read .ensures .0 ∙ ap (λ (x : Read). x .reading) same in
-    let told = c .tell .ensures in
-    (told .0 ∙ ap (λ (x : Reading). codeOf (x .answer)) reading, (after .read .ensures .1 ∙ ap (λ (x : Read). x .work) same, (told .1 .0 ∙ ap (λ (x : Reading). x .text) reading, (told .1 .1 .0 ∙ ap (λ (x : Reading). x .length) reading, told .1 .1 .1 ∙ ap (λ (x : Reading). givenFor (x .answer)) reading))))
+    let told = c .tell .ensures in (
+      told .0 ∙ ap (λ (x : Reading). codeOf (x .answer)) reading,
+      (
+        after .read .ensures .1 ∙ ap (λ (x : Read). x .work) same,
+        (
+          told .1 .0 ∙ ap (λ (x : Reading). x .text) reading,
+          (
+            told .1 .1 .0 ∙ ap (λ (x : Reading). x .length) reading,
+            told .1 .1 .1 ∙ ap (λ (x : Reading). givenFor (x .answer)) reading,
+          ),
+        ),
+      ),
+    )
 
 pub vaikelomu-read-spec : {M : Type 1} → statement M
 vaikelomu-read-spec =

@@ -14,5 +14,4 @@ returns c =
     )
 
 pub vaikelomu-record-spec : {M : Type 1} → statement M
-vaikelomu-record-spec =
-    tie.close (tie.spec (λ c κs. search needs) (λ c κs. search needs) (λ c κs. search needs) returns)
+vaikelomu-record-spec = tie.close (tie.spec (λ c κs. search needs) (λ c κs. search needs) (λ c κs. search needs) returns)

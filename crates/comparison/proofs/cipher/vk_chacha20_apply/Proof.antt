@@ -13,4 +13,5 @@ returns c =
 
 pub vk-chacha20-apply-spec : {M : Type 1} → statement M
 vk-chacha20-apply-spec =
-    tie.close (tie.spec (λ c κs. search needs) (λ c κs. search needs) (λ c κs. search needs) (λ c. search needs) returns)
+    tie.close
+    (tie.spec (λ c κs. search needs) (λ c κs. search needs) (λ c κs. search needs) (λ c. search needs) returns)

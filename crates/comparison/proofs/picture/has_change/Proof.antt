@@ -17,5 +17,4 @@ returns-3 : tie.Need-returns-3
 returns-3 c = rw (lt-leb 256 (c .before .args .width) (c .if1 .left)) refl
 
 pub has-change-spec : {M : Type 1} → statement M
-has-change-spec =
-    tie.close (tie.spec (λ c κs. search needs) returns returns-2 returns-3)
+has-change-spec = tie.close (tie.spec (λ c κs. search needs) returns returns-2 returns-3)

@@ -26,5 +26,4 @@ returns-3 : tie.Need-returns-3
 returns-3 c = rw (← c .before .has-sides .ensures, c .if1 .left) refl
 
 pub has-plane-spec : {M : Type 1} → statement M
-has-plane-spec =
-    tie.close (tie.spec (λ c κs. search needs) mul-result mul-result-2 returns returns-2 returns-3)
+has-plane-spec = tie.close (tie.spec (λ c κs. search needs) mul-result mul-result-2 returns returns-2 returns-3)

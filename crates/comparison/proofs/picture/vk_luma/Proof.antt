@@ -15,7 +15,8 @@ use Rattle.comparison.proofs.picture.vk_luma.Statement.{statement}
 use Rattle.comparison.proofs.picture.vk_luma.Tie as tie
 
 module _ (channels : ℕ) (row : List ℕ) (out : List Float) where
-  has : hasLuma (length row) channels (length out) ≡ true → (made : List Float) → made ≡ tab (lumaAt channels row) (length out) → made ≡ lumaInto channels row out
+  has : hasLuma (length row) channels (length out) ≡ true → (made : List Float) → made ≡ tab (lumaAt channels row) (length out)
+      → made ≡ lumaInto channels row out
   unfolding lumaInto
   has e made f = f ∙ sym (ap (λ (t : Bool). cond t (tab (lumaAt channels row) (length out)) out) e)
 
@@ -33,7 +34,8 @@ returns : tie.Need-returns
 returns c =
     let tested = c .before .before .before .before .before in
     let start = tested .before .before .before .args in
-    let e : hasLuma (length (now (start .row))) (start .channels) (length (now (start .out))) ≡ true = rw (← tested .has-luma .ensures) (c .before .before .before .before .if1 .taken) in
+    let e : hasLuma (length (now (start .row))) (start .channels) (length (now (start .out))) ≡ true =
+    rw (← tested .has-luma .ensures) (c .before .before .before .before .if1 .taken) in
     (tested .has-luma .ensures, has (start .channels) (now (start .row)) (now (start .out)) e _ (c .before .before .luma .ensures))
 
 returns-2 : tie.Need-returns-2
@@ -44,5 +46,4 @@ returns-2 c =
     (tested .has-luma .ensures, has-none (start .channels) (now (start .row)) (now (start .out)) e)
 
 pub vk-luma-spec : {M : Type 1} → statement M
-vk-luma-spec =
-    tie.close (tie.spec (λ c κs. search needs) luma-requires (λ c. search needs) returns returns-2)
+vk-luma-spec = tie.close (tie.spec (λ c κs. search needs) luma-requires (λ c. search needs) returns returns-2)

@@ -21,5 +21,4 @@ returns c =
     (c .is-of .ensures ∙ ap hasWeight found, c .before .value .ensures ∙ ap weightValue found)
 
 pub vk-weight-spec : {M : Type 1} → statement M
-vk-weight-spec =
-    tie.close (tie.spec (λ c κs. search needs) (λ c κs. search needs) (λ c κs. search needs) (λ c κs. search needs) returns)
+vk-weight-spec = tie.close (tie.spec (λ c κs. search needs) (λ c κs. search needs) (λ c κs. search needs) (λ c κs. search needs) returns)

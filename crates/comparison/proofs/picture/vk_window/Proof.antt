@@ -15,8 +15,11 @@ returns c =
     let made = c .before .before .before in
     let a = made .before .args in
     let w = made .new .result in
-    let small : Small w = subst Small (sym (made .new .ensures)) (first-small (a .src) (a .dst) (a .i), last-small (a .src) (a .dst) (a .i)) in
-    (rw (toZ-ofZ w64 (w .first) (small-fits (w .first) (small .0)), toZ-ofZ w64 (w .last) (small-fits (w .last) (small .1))) (ap numbersOf (made .new .ensures)), ap partsOf (made .new .ensures))
+    let small : Small w = subst Small (sym (made .new .ensures)) (first-small (a .src) (a .dst) (a .i), last-small (a .src) (a .dst) (a .i)) in (
+      rw (toZ-ofZ w64 (w .first) (small-fits (w .first) (small .0)), toZ-ofZ w64 (w .last) (small-fits (w .last) (small .1)))
+          (ap numbersOf (made .new .ensures)),
+      ap partsOf (made .new .ensures),
+    )
 
 pub vk-window-spec : {M : Type 1} → statement M
 vk-window-spec = tie.close (tie.spec (λ c κs. search needs) returns)

@@ -13,5 +13,4 @@ returns c =
     (c .code .ensures ∙ ap codeOf answer, (ap (λ (x : Built). x .bytes) made, c .before .given-for .ensures ∙ ap givenFor answer))
 
 pub vk-record-spec : {M : Type 1} → statement M
-vk-record-spec =
-    tie.close (tie.spec (λ c κs. search needs) (λ c κs. search needs) (λ c κs. search needs) returns)
+vk-record-spec = tie.close (tie.spec (λ c κs. search needs) (λ c κs. search needs) (λ c κs. search needs) returns)

@@ -22,12 +22,5 @@ returns c =
 pub put-crc-spec : {M : Type 1} → statement M
 put-crc-spec =
     tie.close
-    (tie.spec
-    (λ c. search needs)
-    slice-aggregate-crc32
-    (λ c κs. search needs)
-    (λ c κs. search needs)
-    (λ c. search needs)
-    (λ c κs. search needs)
-    (λ c. search needs)
-    returns)
+    (tie.spec (λ c. search needs) slice-aggregate-crc32 (λ c κs. search needs) (λ c κs. search needs) (λ c. search needs)
+    (λ c κs. search needs) (λ c. search needs) returns)

@@ -19,8 +19,10 @@ below zero h = record { sfits = omega arith }
 below (suc m) h = record { sfits = omega arith }
 
 sub-result-2 : tie.Need-sub-result-2
-sub-result-2 c = let h : 18446744073709551615 - c .before .args .bits < 2 ^ 63 = omega arith in subst (λ (z : ℤ). SFits w64 (negsuc 0 -ℤ z)) (sym (low _ h)) (below _ h)
+sub-result-2 c = let h : 18446744073709551615 - c .before .args .bits < 2 ^ 63 = omega arith in
+    subst (λ (z : ℤ). SFits w64 (negsuc 0 -ℤ z)) (sym (low _ h)) (below _ h)
 
 pub i64-of-spec : {M : Type 1} → statement M
 i64-of-spec =
-    tie.close (tie.spec (λ c. search needs) (λ c. search needs) (λ c. search needs) (λ c. search needs) sub-result-2 (λ c. search needs))
+    tie.close
+    (tie.spec (λ c. search needs) (λ c. search needs) (λ c. search needs) (λ c. search needs) sub-result-2 (λ c. search needs))

@@ -74,10 +74,12 @@ returns-2 t c =
     let large = tenth .before .before in
     let start = large .before .before in
     let n = start .args .n in
-    let room : start .args .at + (length (Line·decimal (n / 10)) + 1) ≤ length (now (start .args .out)) = omega (arith, start .pre .1, more n (large .if1 .left)) in
+    let room : start .args .at + (length (Line·decimal (n / 10)) + 1) ≤ length (now (start .args .out)) =
+    omega (arith, start .pre .1, more n (large .if1 .left)) in
     rw (decimal-more n (large .if1 .left)) (puts-more room (tenth .decimal .ensures) (c .before .before .digit2 .ensures))
 
 pub +decimal-spec : {M : Type 1} → statement M
 +decimal-spec =
     close μ-decimal
-    (λ t. decimal-lts.spec (calls t) (decimal-at t) decimal.Post (cast-digit t) (digit-requires t) (same-length t) (returns t) (decimal-requires t) (cast-digit-2 t) (digit-requires-2 t) (same-length-2 t) (returns-2 t))
+    (λ t. decimal-lts.spec (calls t) (decimal-at t) decimal.Post (cast-digit t) (digit-requires t) (same-length t) (returns t) (decimal-requires t)
+    (cast-digit-2 t) (digit-requires-2 t) (same-length-2 t) (returns-2 t))

@@ -44,13 +44,4 @@ returns-2 c =
     rw (hex-some (now (some .before .before .before .args .text)) (some .if1 .left)) (c .before .before .pairs .ensures)
 
 pub hex-spec : {M : Type 1} → statement M
-hex-spec =
-    tie.close
-    (tie.spec
-    (λ c. search needs)
-    bytes-requires
-    (λ c. search needs)
-    returns
-    pairs-requires
-    (λ c. search needs)
-    returns-2)
+hex-spec = tie.close (tie.spec (λ c. search needs) bytes-requires (λ c. search needs) returns pairs-requires (λ c. search needs) returns-2)

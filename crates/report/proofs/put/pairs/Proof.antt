@@ -25,7 +25,8 @@ abbrev μ-loop : tie.MeasureT-loop
 fits : (text : List ℕ) (i : ℕ) → i < length text → length (pairs (take i text)) + 2 ≤ length (pairs text)
 fits text i h = omega (arith, length-pairs text, length-pairs (take i text), length-take-le i text (omega arith))
 
-in-loop : (c : tie.In-loop Inv-loop μ-loop) → let l = c .before .loop in let args = c .before .before .before .before .args in (l .i < length (now (args .text))) × (l .to + 2 ≤ length (l .out))
+in-loop : (c : tie.In-loop Inv-loop μ-loop) → let l = c .before .loop in let args = c .before .before .before .before .args in
+    (l .i < length (now (args .text))) × (l .to + 2 ≤ length (l .out))
 in-loop c =
     let l = c .before .loop in
     let start = c .before .before .before .before in
@@ -55,8 +56,14 @@ loop-again c =
     let text = now (start .args .text) in
     let there = in-loop turn in
     let room : l .to + (1 + 1) ≤ length (l .out) = omega (arith, there .1) in
-    let behind : start .args .at + (length (pairs (take (l .i) text)) + 2) ≤ length (now (start .args .out)) = omega (arith, start .pre, fits text (l .i) (there .0)) in
-    (search needs, search needs, search needs, rw (add-one, take-suc text (l .i) 0 (there .0), pairs-more (take (l .i) text) (getD text (l .i) 0)) (puts-more behind (l .inv .3) (puts-more room (high .digit .ensures) (c .before .before .digit2 .ensures))))
+    let behind : start .args .at + (length (pairs (take (l .i) text)) + 2) ≤ length (now (start .args .out)) =
+    omega (arith, start .pre, fits text (l .i) (there .0)) in (
+      search needs,
+      search needs,
+      search needs,
+      rw (add-one, take-suc text (l .i) 0 (there .0), pairs-more (take (l .i) text) (getD text (l .i) 0))
+          (puts-more behind (l .inv .3) (puts-more room (high .digit .ensures) (c .before .before .digit2 .ensures))),
+    )
 
 returns : tie.Need-returns Inv-loop μ-loop
 returns c =
@@ -67,15 +74,5 @@ returns c =
 pub pairs-spec : {M : Type 1} → statement M
 pairs-spec =
     tie.close
-    (tie.spec
-    Inv-loop
-    μ-loop
-    loop-holds
-    (λ c. search needs)
-    digit-requires
-    digit-requires-2
-    (λ c. search needs)
-    (λ c. search needs)
-    loop-again
-    (λ c. search needs)
-    returns)
+    (tie.spec Inv-loop μ-loop loop-holds (λ c. search needs) digit-requires digit-requires-2 (λ c. search needs) (λ c. search needs)
+    loop-again (λ c. search needs) returns)

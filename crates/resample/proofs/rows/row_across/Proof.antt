@@ -13,7 +13,8 @@ use Rattle.resample.proofs.rows.row_across.Statement.{statement}
 use Rattle.resample.proofs.rows.row_across.Tie as tie
 
 abbrev Inv-loop : tie.InvT-loop
-Inv-loop offsets index weight source out₀ dst x₀ out x = (dst ≡ length out₀) × (x ≤ dst) × (length out ≡ length out₀) × (out ≡ filled (across (length source) (length out₀) (λ k. getD source k nan)) x out₀)
+Inv-loop offsets index weight source out₀ dst x₀ out x =
+    (dst ≡ length out₀) × (x ≤ dst) × (length out ≡ length out₀) × (out ≡ filled (across (length source) (length out₀) (λ k. getD source k nan)) x out₀)
 
 abbrev μ-loop : tie.MeasureT-loop
 μ-loop offsets index weight source out₀ dst x₀ out x = dst - x
@@ -39,15 +40,5 @@ returns c =
 pub row-across-spec : {M : Type 1} → statement M
 row-across-spec =
     tie.close
-    (tie.spec
-    Inv-loop
-    μ-loop
-    loop-holds
-    value-across-requires
-    (λ c. search needs)
-    (λ c. search needs)
-    (λ c. search needs)
-    (λ c. search needs)
-    loop-again
-    (λ c. search needs)
-    returns)
+    (tie.spec Inv-loop μ-loop loop-holds value-across-requires (λ c. search needs) (λ c. search needs) (λ c. search needs)
+    (λ c. search needs) loop-again (λ c. search needs) returns)

@@ -14,18 +14,27 @@ use Rattle.resample.proofs.rows.value_across.Statement.{statement}
 use Rattle.resample.proofs.rows.value_across.Tie as tie
 
 abbrev Inv-loop : tie.InvT-loop
-Inv-loop x dst offsets index weight source a e t₀ n₀ t n = (a ≡ start (length source) dst x) × (e ≡ start (length source) dst (x + 1)) × (a ≤ n) × (n ≤ e) × (t ≡ soFar (length source) dst x n (λ k. getD source k nan))
+Inv-loop x dst offsets index weight source a e t₀ n₀ t n =
+    (a ≡ start (length source) dst x) × (e ≡ start (length source) dst (x + 1)) × (a ≤ n) × (n ≤ e)
+    × (t ≡ soFar (length source) dst x n (λ k. getD source k nan))
 
 abbrev μ-loop : tie.MeasureT-loop
 μ-loop x dst offsets index weight source a e t₀ n₀ t n = e - n
 
 -- in a turn the place is one of the tables'
-bound : (c : tie.In-loop Inv-loop μ-loop) → c .before .loop .n < start (length (now (c .before .before .before .before .before .before .before .before .before .before .args .source))) (c .before .before .before .before .before .before .before .before .before .before .args .dst) (c .before .before .before .before .before .before .before .before .before .before .args .dst)
-bound c = let p = c .before .before .before .before .before .before .before .before .before .before in place-fits (p .pre .0) (p .args .x) (c .before .loop .n) (p .pre .1) (omega arith) (omega arith)
+bound : (c : tie.In-loop Inv-loop μ-loop)
+    → c .before .loop .n < start (length (now (c .before .before .before .before .before .before .before .before .before .before .args .source)))
+    (c .before .before .before .before .before .before .before .before .before .before .args .dst)
+    (c .before .before .before .before .before .before .before .before .before .before .args .dst)
+bound c = let p = c .before .before .before .before .before .before .before .before .before .before in
+    place-fits (p .pre .0) (p .args .x) (c .before .loop .n) (p .pre .1) (omega arith) (omega arith)
 
 -- and the tap's read lies in the source
-inside : (c : tie.In-loop Inv-loop μ-loop) → getD (now (c .before .before .before .before .before .before .before .before .before .before .args .index)) (c .before .loop .n) 0 < length (now (c .before .before .before .before .before .before .before .before .before .before .args .source))
-inside c = let p = c .before .before .before .before .before .before .before .before .before .before in from-inside (p .pre .0) (p .args .x) (c .before .loop .n) (p .pre .1) (omega arith) (omega arith)
+inside : (c : tie.In-loop Inv-loop μ-loop)
+    → getD (now (c .before .before .before .before .before .before .before .before .before .before .args .index)) (c .before .loop .n) 0 < length
+    (now (c .before .before .before .before .before .before .before .before .before .before .args .source))
+inside c = let p = c .before .before .before .before .before .before .before .before .before .before in
+    from-inside (p .pre .0) (p .args .x) (c .before .loop .n) (p .pre .1) (omega arith) (omega arith)
 
 loop-holds : tie.Need-loop-holds Inv-loop μ-loop
 unfolding neg ofBits
@@ -33,9 +42,15 @@ loop-holds c =
     let p = c .before .before .before .before .before .before .before .before in
     let src = length (now (p .args .source)) in
     let t : Tables src (p .args .dst) (now (p .args .offsets)) (now (p .args .index)) (now (p .args .weight)) = p .pre .0 in
-    let a : c .before .before .wide .result ≡ start src (p .args .dst) (p .args .x) = c .before .before .wide .ensures ∙ offset-at t (p .args .x) (omega arith) in
-    let e : c .wide2 .result ≡ start src (p .args .dst) (p .args .x + 1) = c .wide2 .ensures ∙ offset-at t (p .args .x + 1) (omega arith) in
-    (a, e, search needs, omega (arith, start-rises src (p .args .dst) (p .args .x) (p .args .x + 1) (omega arith)), none-yet src (p .args .dst) (p .args .x) (c .before .before .wide .result) (λ k. getD (now (p .args .source)) k nan) a)
+    let a : c .before .before .wide .result ≡ start src (p .args .dst) (p .args .x) =
+    c .before .before .wide .ensures ∙ offset-at t (p .args .x) (omega arith) in
+    let e : c .wide2 .result ≡ start src (p .args .dst) (p .args .x + 1) = c .wide2 .ensures ∙ offset-at t (p .args .x + 1) (omega arith) in (
+      a,
+      e,
+      search needs,
+      omega (arith, start-rises src (p .args .dst) (p .args .x) (p .args .x + 1) (omega arith)),
+      none-yet src (p .args .dst) (p .args .x) (c .before .before .wide .result) (λ k. getD (now (p .args .source)) k nan) a,
+    )
 
 mul-t : tie.Need-mul-t Inv-loop μ-loop
 mul-t c = omega (arith, bound c)
@@ -61,8 +76,14 @@ loop-again c =
     let at = c .before .before .before .before .before .loop in
     let src = length (now (p .args .source)) in
     let t : Tables src (p .args .dst) (now (p .args .offsets)) (now (p .args .index)) (now (p .args .weight)) = p .pre .0 in
-    let h = at .inv in
-    (h .0, h .1, search needs, search needs, rw (c .before .wide3 .ensures) (one-more t (p .args .x) (at .n) (p .pre .1) (omega arith) (omega arith) (at .t) (λ k. getD (now (p .args .source)) k nan) (h .4)))
+    let h = at .inv in (
+      h .0,
+      h .1,
+      search needs,
+      search needs,
+      rw (c .before .wide3 .ensures)
+          (one-more t (p .args .x) (at .n) (p .pre .1) (omega arith) (omega arith) (at .t) (λ k. getD (now (p .args .source)) k nan) (h .4)),
+    )
 
 returns : tie.Need-returns Inv-loop μ-loop
 returns c =
@@ -73,25 +94,6 @@ returns c =
 pub value-across-spec : {M : Type 1} → statement M
 value-across-spec =
     tie.close
-    (tie.spec
-    Inv-loop
-    μ-loop
-    (λ c. search needs)
-    (λ c. search needs)
-    (λ c κs. search needs)
-    (λ c. search needs)
-    (λ c. search needs)
-    (λ c. search needs)
-    (λ c κs. search needs)
-    loop-holds
-    mul-t
-    shared-slice-read-t
-    mul-wide-3
-    shared-slice-read-wide-3
-    (λ c κs. search needs)
-    mul-t-2
-    shared-slice-read-t-2
-    (λ c. search needs)
-    (λ c. search needs)
-    loop-again
-    returns)
+    (tie.spec Inv-loop μ-loop (λ c. search needs) (λ c. search needs) (λ c κs. search needs) (λ c. search needs) (λ c. search needs)
+    (λ c. search needs) (λ c κs. search needs) loop-holds mul-t shared-slice-read-t mul-wide-3 shared-slice-read-wide-3
+    (λ c κs. search needs) mul-t-2 shared-slice-read-t-2 (λ c. search needs) (λ c. search needs) loop-again returns)

@@ -44,11 +44,13 @@ nth-requires c κs =
     (rw (toZ-ofZ w64 (w .first) (small-fits (w .first) (small .0))) (small .0), small-k c)
 
 is-tent : (c : tie.After-tent Inv-loop μ-loop)
-    → c .tent .result ≡ tentOf (c .before .before .before .before .before .before .before .args .self) (c .before .before .before .before .before .before .before .args .self .first +ℤ pos (c .before .before .before .loop .k))
+    → c .tent .result ≡ tentOf (c .before .before .before .before .before .before .before .args .self)
+    (c .before .before .before .before .before .before .before .args .self .first +ℤ pos (c .before .before .before .loop .k))
 is-tent c =
     let w = c .before .before .before .before .before .before .before .args .self in
     let small = c .before .before .before .before .before .before .before .pre in
-    c .tent .ensures ∙ ap (tentOf w) (passed (c .before .nth .result) (w .first) (c .before .before .before .loop .k) (small .0) (small-k (c .before .before)) (c .before .nth .ensures))
+    c .tent .ensures ∙ ap (tentOf w)
+    (passed (c .before .nth .result) (w .first) (c .before .before .before .loop .k) (small .0) (small-k (c .before .before)) (c .before .nth .ensures))
 
 loop-again : tie.Need-loop-again Inv-loop μ-loop
 unfolding ofBits
@@ -58,13 +60,19 @@ loop-again c =
     let s = c .before .before .before .before .loop .sum in
     let e = c .before .before .before .before .loop .inv .1 in (
       omega arith,
-      ⊎-elim (λ t. t .1 ∙ sum-with w k (c .before .tent .result) (is-tent (c .before)) s (t .0 .taken) e) (λ t. t .1 ∙ sum-without w k (c .before .tent .result) (is-tent (c .before)) s (t .0 .left) e) (c .if1 .came),
+      ⊎-elim (λ t. t .1 ∙ sum-with w k (c .before .tent .result) (is-tent (c .before)) s (t .0 .taken) e)
+          (λ t. t .1 ∙ sum-without w k (c .before .tent .result) (is-tent (c .before)) s (t .0 .left) e) (c .if1 .came),
     )
 
 returns : tie.Need-returns Inv-loop μ-loop
 returns c =
-    let e : c .before .loop .k ≡ numbers (c .before .before .before .before .before .args .self .first) (c .before .before .before .before .before .args .self .last) = omega (arith, counted (c .before .before)) in
+    let e : c .before .loop .k
+    ≡ numbers (c .before .before .before .before .before .args .self .first) (c .before .before .before .before .before .args .self .last) =
+    omega (arith, counted (c .before .before)) in
     rw e at (c .before .loop .inv .1)
 
 pub sum-tents-spec : {M : Type 1} → statement M
-sum-tents-spec = tie.close (tie.spec Inv-loop μ-loop (λ c κs. search needs) loop-holds nth-requires (λ c κs. search needs) (λ c. search needs) (λ c. search needs) loop-again returns)
+sum-tents-spec =
+    tie.close
+    (tie.spec Inv-loop μ-loop (λ c κs. search needs) loop-holds nth-requires (λ c κs. search needs) (λ c. search needs) (λ c. search needs)
+    loop-again returns)

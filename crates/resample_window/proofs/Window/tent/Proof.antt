@@ -9,7 +9,12 @@ use Rattle.resample_window.proofs.Window.tent.Tie as tie
 
 returns : tie.Need-returns
 unfolding tentOf ofBits
-returns c = simp (c .abs-f64 .ensures, c .before .before .before .nearest-i64-to-f64 .ensures, toZ-ofZ w64 (c .before .before .before .before .args .j) (c .before .before .before .before .fits .j))
+returns c = simp (
+  c .abs-f64 .ensures,
+  c .before .before .before .nearest-i64-to-f64 .ensures,
+  toZ-ofZ w64 (c .before .before .before .before .args .j)
+      (c .before .before .before .before .fits .j),
+)
 
 pub tent-spec : {M : Type 1} → statement M
 tent-spec = tie.close (tie.spec (λ c κs. search needs) (λ c κs. search needs) returns)

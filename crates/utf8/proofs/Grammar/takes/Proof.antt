@@ -73,7 +73,8 @@ loop-holds c = (search needs, search needs, taken-is (c .before .args .self) (no
 read : (c : tie.After-shared-slice-known2 Inv-loop μ-loop) →
     let start = c .before .before .before .before .args in
     let loop = c .before .before .loop in
-    accepts (formsOf (start .self)) (dueOf (loop .due)) (getD (now (start .bytes)) (loop .i) 0 ∷ drop (loop .i + 1) (now (start .bytes))) ≡ taken (start .self) (now (start .bytes))
+    accepts (formsOf (start .self)) (dueOf (loop .due)) (getD (now (start .bytes)) (loop .i) 0 ∷ drop (loop .i + 1) (now (start .bytes)))
+    ≡ taken (start .self) (now (start .bytes))
 read c =
     let h : c .before .before .loop .i < length (now (c .before .before .before .before .args .bytes)) = omega arith in
     rw (add-one, ← drop-cons (now (c .before .before .before .before .args .bytes)) (c .before .before .loop .i) 0 h) (c .before .before .loop .inv .2)
@@ -107,16 +108,5 @@ returns-3 c =
 pub takes-spec : {M : Type 1} → statement M
 takes-spec =
     tie.close
-    (tie.spec
-    Inv-loop
-    μ-loop
-    loop-holds
-    (λ c. search needs)
-    (λ c κs. search needs)
-    returns
-    returns-2
-    (λ c. search needs)
-    (λ c. search needs)
-    (λ c. search needs)
-    loop-again
-    returns-3)
+    (tie.spec Inv-loop μ-loop loop-holds (λ c. search needs) (λ c κs. search needs) returns returns-2 (λ c. search needs)
+    (λ c. search needs) (λ c. search needs) loop-again returns-3)
