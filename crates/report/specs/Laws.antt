@@ -83,20 +83,20 @@ length-hex (b ∷ bs) m h g = omega (arith, length-pairs (b ∷ bs))
 
 -- a reading has room for 32 bytes, and its text fits
 pub record FitsLine (r : Reading) : Type 0 where
-  pub line-whole : length (r .text) ≡ short .room
-  pub line-within : r .length ≤ short .room
+  pub whole : length (r .text) ≡ short .room
+  pub within : r .length ≤ short .room
 
 record Short (o : Outcome) : Type 0 where
   fits : FitsLine (readAs o)
 
 none : (r : Refusal) → Short (refused r)
-none r = record { fits = record { line-whole = refl; line-within = omega arith } }
+none r = record { fits = record { whole = refl; within = omega arith } }
 
 text : (bs : List ℕ) → length bs ≤ short .room → Short (gives bs)
 text bs h = record {
   fits = record {
-    line-whole = simp (length-append, length-replicate) (omega arith);
-    line-within = h;
+    whole = simp (length-append, length-replicate) (omega arith);
+    within = h;
   };
 }
 
