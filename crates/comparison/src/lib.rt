@@ -5,5 +5,5 @@ mod cipher;
 mod code;
 mod float32;
 mod float64;
-mod picture;
+mod pictures;
 mod records;

@@ -10,8 +10,8 @@ use lib.ListN.{length}
 use Rattle.resample.specs.Samples.{planeOf}
 use Rattle.comparison.specs.Pictures.{plane-sized, plane-values}
 use Rattle.comparison.specs.Stages.{hasPlane, planeInto}
-use Rattle.comparison.proofs.picture.vk_plane.Statement.{statement}
-use Rattle.comparison.proofs.picture.vk_plane.Tie as tie
+use Rattle.comparison.proofs.pictures.vk_plane.Statement.{statement}
+use Rattle.comparison.proofs.pictures.vk_plane.Tie as tie
 
 module _ (width height channels : ℕ) (samples : List ℕ) (plane : List Float) where
   has : hasPlane width height channels (length samples) (length plane) ≡ true → (made : List Float) → made ≡ planeOf width height channels samples

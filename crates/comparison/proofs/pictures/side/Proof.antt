@@ -1,8 +1,8 @@
 -- The test on zero decides.
 use borrow.Author.Tests.{lt-ltb, le-ltb}
 use mathlib.Core.Path.{refl}
-use Rattle.comparison.proofs.picture.side.Statement.{statement}
-use Rattle.comparison.proofs.picture.side.Tie as tie
+use Rattle.comparison.proofs.pictures.side.Statement.{statement}
+use Rattle.comparison.proofs.pictures.side.Tie as tie
 
 returns : tie.Need-returns
 returns c = rw (lt-ltb 0 (c .before .args .n) (c .if1 .taken)) refl

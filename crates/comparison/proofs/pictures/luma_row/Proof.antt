@@ -9,8 +9,8 @@ use Rattle.seq.specs.Lists.{filled}
 use Rattle.resample.specs.Samples.{lumaAt}
 use Rattle.resample.specs.Pixels.{pixel-fits}
 use borrow.Author.Needs.{needs}
-use Rattle.comparison.proofs.picture.luma_row.Statement.{statement}
-use Rattle.comparison.proofs.picture.luma_row.Tie as tie
+use Rattle.comparison.proofs.pictures.luma_row.Statement.{statement}
+use Rattle.comparison.proofs.pictures.luma_row.Tie as tie
 
 abbrev Inv-loop : tie.InvT-loop
 Inv-loop row channels shares out₀ x₀ x-end out x =

@@ -2,8 +2,8 @@
 use borrow.Author.Needs.{needs}
 use mathlib.Core.Path.{refl, sym, _∙_}
 use Rattle.comparison.specs.Pictures.{row-few}
-use Rattle.comparison.proofs.picture.has_luma.Statement.{statement}
-use Rattle.comparison.proofs.picture.has_luma.Tie as tie
+use Rattle.comparison.proofs.pictures.has_luma.Statement.{statement}
+use Rattle.comparison.proofs.pictures.has_luma.Tie as tie
 
 mul-result : tie.Need-mul-result
 mul-result c =

@@ -11,8 +11,8 @@ use Rattle.seq.specs.Lists.{tab}
 use Rattle.resample.specs.Samples.{lumaAt}
 use Rattle.comparison.specs.Pictures.{luma-fits}
 use Rattle.comparison.specs.Stages.{hasLuma, lumaInto}
-use Rattle.comparison.proofs.picture.vk_luma.Statement.{statement}
-use Rattle.comparison.proofs.picture.vk_luma.Tie as tie
+use Rattle.comparison.proofs.pictures.vk_luma.Statement.{statement}
+use Rattle.comparison.proofs.pictures.vk_luma.Tie as tie
 
 module _ (channels : ℕ) (row : List ℕ) (out : List Float) where
   has : hasLuma (length row) channels (length out) ≡ true → (made : List Float) → made ≡ tab (lumaAt channels row) (length out)

@@ -7,8 +7,8 @@ use mir.ValLaws.{toZ-ofZ}
 use Rattle.resample_window.specs.Window.{weightOf}
 use Rattle.resample_window.specs.declared.Window.{Window}
 use Rattle.comparison.specs.Stages.{hasWeight, weightValue}
-use Rattle.comparison.proofs.picture.vk_weight.Statement.{statement}
-use Rattle.comparison.proofs.picture.vk_weight.Tie as tie
+use Rattle.comparison.proofs.pictures.vk_weight.Statement.{statement}
+use Rattle.comparison.proofs.pictures.vk_weight.Tie as tie
 
 returns : tie.Need-returns
 returns c =

@@ -10,8 +10,8 @@ use lib.ListN.{length}
 use Rattle.resample.specs.Samples.{changedOf}
 use Rattle.comparison.specs.Pictures.{change-fits}
 use Rattle.comparison.specs.Stages.{hasChange, changeInto}
-use Rattle.comparison.proofs.picture.vk_change.Statement.{statement}
-use Rattle.comparison.proofs.picture.vk_change.Tie as tie
+use Rattle.comparison.proofs.pictures.vk_change.Statement.{statement}
+use Rattle.comparison.proofs.pictures.vk_change.Tie as tie
 
 module _ (width height channels : ℕ) (change : List Float) (samples : List ℕ) where
   has : hasChange width height channels (length change) (length samples) ≡ true → (made : List ℕ) → made ≡ changedOf width height channels change samples

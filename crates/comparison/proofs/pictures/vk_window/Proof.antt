@@ -7,8 +7,8 @@ use Rattle.resample_window.specs.Range.{first-small, last-small}
 use Rattle.resample_window.specs.Signed.{small-fits}
 use Rattle.resample_window.specs.Window.{Small}
 use Rattle.comparison.specs.Stages.{numbersOf, partsOf}
-use Rattle.comparison.proofs.picture.vk_window.Statement.{statement}
-use Rattle.comparison.proofs.picture.vk_window.Tie as tie
+use Rattle.comparison.proofs.pictures.vk_window.Statement.{statement}
+use Rattle.comparison.proofs.pictures.vk_window.Tie as tie
 
 returns : tie.Need-returns
 returns c =

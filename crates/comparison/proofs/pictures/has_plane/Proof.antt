@@ -3,8 +3,8 @@ use borrow.Author.Needs.{needs}
 use borrow.Author.Tests.{ne-eqb, eq-eqb}
 use mathlib.Core.Path.{refl, sym, _∙_}
 use Rattle.comparison.specs.Pictures.{row-few, samples-few}
-use Rattle.comparison.proofs.picture.has_plane.Statement.{statement}
-use Rattle.comparison.proofs.picture.has_plane.Tie as tie
+use Rattle.comparison.proofs.pictures.has_plane.Statement.{statement}
+use Rattle.comparison.proofs.pictures.has_plane.Tie as tie
 
 mul-result : tie.Need-mul-result
 mul-result c =
