@@ -46,4 +46,5 @@ pub front-made : (key : List ℕ) (len count room h : ℕ) → h ≡ cond (leb l
     → made (streamOf key) (min (min count h) room) 0 0 (take h (tab (λ k. k) longestShuffle)) ≡ shuffleOf key len count room
 unfolding shuffled shuffleOf
 front-made key len count room h e b =
-    rw (take-tab (λ k. k) h longestShuffle b) (ap (λ (n : ℕ). shuffled key n (min (min count n) room)) e ∙ held-made key len count room (leb len longestShuffle))
+    rw (take-tab (λ k. k) h longestShuffle b)
+    (ap (λ (n : ℕ). shuffled key n (min (min count n) room)) e ∙ held-made key len count room (leb len longestShuffle))

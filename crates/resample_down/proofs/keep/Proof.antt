@@ -15,9 +15,18 @@ use borrow.Author.Needs.{needs}
 use Rattle.resample_down.proofs.keep.Statement.{statement}
 use Rattle.resample_down.proofs.keep.Tie as tie
 
+abbrev start : tie.Then1 → tie.Start
+start c = c .before .before .before .before .before .before .before .before .before .before
+
+abbrev start-2 : tie.After-narrow-four-arg2 → tie.Start
+start-2 c = c .before .before .before .before .before .before .before .before .before .before .before .before
+
+abbrev start-3 : tie.After-slice-known6 → tie.Start
+start-3 c = start-2 (c .before .before .before .before .before)
+
 returns : tie.Need-returns
 returns c =
-    let p = c .before .before .before .before .before .before .before .before .before .before in
+    let p = start c in
     let a = p .args in
     let n = p .pre .0 in
     let g = a .i / 4 in
@@ -33,7 +42,7 @@ returns c =
 
 narrow-four-requires : tie.Need-narrow-four-requires
 narrow-four-requires c κs =
-    let p = c .before .before .before .before .before .before .before .before .before .before .before .before in
+    let p = start-2 c in
     let n = p .pre .0 in
     let at = p .args .i / 4 % 16 * 1024 in
     let size : length (take (at + 1024 - at) (drop at (p .args .rows .now))) ≡ 1024 =
@@ -43,7 +52,7 @@ narrow-four-requires c κs =
 returns-2 : tie.Need-returns-2
 unfolding onPart
 returns-2 c =
-    let p = c .before .before .before .before .before .before .before .before .before .before .before .before .before .before .before .before .before in
+    let p = start-3 c in
     let a = p .args in
     let n = p .pre .0 in
     let g = a .i / 4 in

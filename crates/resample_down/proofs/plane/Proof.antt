@@ -12,17 +12,29 @@ use borrow.Author.Needs.{needs}
 use Rattle.resample_down.proofs.plane.Statement.{statement}
 use Rattle.resample_down.proofs.plane.Tie as tie
 
+abbrev start : tie.After-weight → tie.Start
+start c = c .before .before .before .before .before .before .before .before
+
+abbrev past-taps : tie.After-plane-rows-arg → tie.After-taps
+past-taps c = c .before .before .before .before .before .before .before .before .before .before .before
+
+abbrev past-shares : tie.After-plane-rows-arg → tie.After-shares
+past-shares c = past-taps c .before .before .before .before .before
+
+abbrev start-2 : tie.After-plane-rows-arg → tie.Start
+start-2 c = past-shares c .before .before .before .before
+
 taps-requires : tie.Need-taps-requires
-taps-requires c κs = let p = c .before .before .before .before .before .before .before .before in
+taps-requires c κs = let p = start c in
     omega (arith, p .pre .0 .wide, p .pre .0 .width-most, room-down (p .args .width) (p .pre .0 .width-most))
 
 plane-rows-requires : tie.Need-plane-rows-requires
 unfolding ofBits
 plane-rows-requires c κs =
-    let p = c .before .before .before .before .before .before .before .before .before .before .before .before .before .before .before .before .before .before .before .before in
+    let p = start-2 c in
     let a = p .args in
     let s = p .pre .0 in
-    let made = c .before .before .before .before .before .before .before .before .before .before .before .taps in
+    let made = past-taps c .taps in
     let room = room-down (a .width) (s .width-most) in
     let tables =
     tables-made (a .width) 256 (replicate 257 0) (made .last .1 .1 .0) (replicate 16384 0) (made .last .1 .1 .1 .0) (replicate 16384 zero+)
@@ -34,7 +46,7 @@ plane-rows-requires c κs =
       record {
         sized = s;
         products =
-            c .before .before .before .before .before .before .before .before .before .before .before .before .before .before .before .before .shares .ensures;
+            past-shares c .shares .ensures;
         tables = tables;
         line-room = length-replicate 32768 zero+;
         kept = kept;

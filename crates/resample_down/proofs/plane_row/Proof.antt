@@ -12,40 +12,55 @@ use borrow.Author.Needs.{needs}
 use Rattle.resample_down.proofs.plane_row.Statement.{statement}
 use Rattle.resample_down.proofs.plane_row.Tie as tie
 
+abbrev past-zero-floats : tie.After-add-window-arg4 → tie.After-zero-floats
+past-zero-floats c = c .before .before .before .before .before .before .before
+
+abbrev past-add-window : tie.After-slice-known9 → tie.After-add-window
+past-add-window c = c .before .before .before .before .before .before .before .before
+
+abbrev past-new : tie.After-slice-known9 → tie.After-new
+past-new c = past-add-window c .before .before .before .before .before
+
+abbrev start : tie.After-add-window-arg4 → tie.Start
+start c = past-zero-floats c .before .before .before .before .before .before .before .before .before .before .before
+
+abbrev start-2 : tie.After-slice-known9 → tie.Start
+start-2 c = start (c .before .before .before .before .before .before .before .before .before)
+
 add-window-requires : tie.Need-add-window-requires
 unfolding ofBits
 add-window-requires c κs =
-    let p = c .before .before .before .before .before .before .before .before .before .before .before .before .before .before .before .before .before .before in
+    let p = start c in
     let a = p .args in
     let made = c .before .before .before .before .new in (
       p .pre .0,
       window-small (made .result) (a .height) 256 (a .y) (made .ensures),
-      c .before .before .before .before .before .before .before .zero-floats .ensures
+      past-zero-floats c .zero-floats .ensures
           ∙ (ap (λ n. replicate n zero+) (p .pre .1) ∙ sumRows-none 256 (narrowRow (a .width) (a .channels) (a .samples .now))),
     )
 
 same-length : tie.Need-same-length
-same-length c = c .before .before .before .before .before .before .before .before .add-window .ensures .0 .line-room
-    ∙ sym (c .before .before .before .before .before .before .before .before .before .before .before .before .before .before .before .before .before .before .before .before .before .before .before .before .before .before .before .pre .0 .line-room)
+same-length c = past-add-window c .add-window .ensures .0 .line-room
+    ∙ sym (start-2 c .pre .0 .line-room)
 
 same-length-2 : tie.Need-same-length-2
-same-length-2 c = c .before .before .before .before .before .before .before .before .add-window .ensures .0 .kept .rows-room
-    ∙ sym (c .before .before .before .before .before .before .before .before .before .before .before .before .before .before .before .before .before .before .before .before .before .before .before .before .before .before .before .pre .0 .kept .rows-room)
+same-length-2 c = past-add-window c .add-window .ensures .0 .kept .rows-room
+    ∙ sym (start-2 c .pre .0 .kept .rows-room)
 
 same-length-3 : tie.Need-same-length-3
-same-length-3 c = c .before .before .before .before .before .before .before .before .add-window .ensures .0 .kept .held-room
-    ∙ sym (c .before .before .before .before .before .before .before .before .before .before .before .before .before .before .before .before .before .before .before .before .before .before .before .before .before .before .before .pre .0 .kept .held-room)
+same-length-3 c = past-add-window c .add-window .ensures .0 .kept .held-room
+    ∙ sym (start-2 c .pre .0 .kept .held-room)
 
 same-length-4 : tie.Need-same-length-4
-same-length-4 c = ap length (c .before .before .before .before .before .before .before .before .add-window .ensures .1)
+same-length-4 c = ap length (past-add-window c .add-window .ensures .1)
     ∙ (length-sumRows 256 _ _
-    ∙ sym (c .before .before .before .before .before .before .before .before .before .before .before .before .before .before .before .before .before .before .before .before .before .before .before .before .before .before .before .pre .1))
+    ∙ sym (start-2 c .pre .1))
 
 returns : tie.Need-returns
 returns c =
-    let a = c .before .before .before .before .before .before .before .before .before .before .before .before .before .before .before .before .before .before .before .before .before .before .before .before .before .before .before .args in
-    let made = c .before .before .before .before .before .before .before .before .before .before .before .before .before .new in
-    let added = c .before .before .before .before .before .before .before .before .add-window .ensures in
+    let a = start-2 c .args in
+    let made = past-new c .new in
+    let added = past-add-window c .add-window .ensures in
     let row = narrowRow (a .width) (a .channels) (a .samples .now) in (
       added .0,
       added .1 ∙ (ap (sumRows 256 row) (taps-of (made .result) (a .height) 256 (a .y) (made .ensures))

@@ -26,9 +26,21 @@ Inv-loop width height channels samples shares offsets index weight line₀ rows�
 abbrev μ-loop : tie.MeasureT-loop
 μ-loop width height channels samples shares offsets index weight line₀ rows₀ held₀ plane₀ y₀ line rows held plane y = 256 - y
 
+abbrev start : tie.After-slice-known4 Inv-loop μ-loop → tie.Start Inv-loop μ-loop
+start c = c .before .before .before .before .before .before .before .before .before
+
+abbrev start-2 : tie.After-loop Inv-loop μ-loop → tie.Start Inv-loop μ-loop
+start-2 c = start (c .before .before)
+
+abbrev start-3 : tie.In-loop Inv-loop μ-loop → tie.Start Inv-loop μ-loop
+start-3 c = start (c .before .before)
+
+abbrev in-loop : tie.After-slice-known8 Inv-loop μ-loop → tie.In-loop Inv-loop μ-loop
+in-loop c = c .before .before .before .before .before .before .before .before .before .before .before .before .before
+
 loop-holds : tie.Need-loop-holds Inv-loop μ-loop
 unfolding lines
-loop-holds c = (omega arith, c .before .before .before .before .before .before .before .before .before .pre .0, refl, refl)
+loop-holds c = (omega arith, start c .pre .0, refl, refl)
 
 -- in a turn the row ends within the plane
 room : (c : tie.In-loop Inv-loop μ-loop) → c .before .loop .y * 256 + 256 ≤ length (c .before .loop .plane)
@@ -36,7 +48,7 @@ room c = omega (
   arith,
   c .loop-test .taken,
   c .before .loop .inv .3,
-  c .before .before .before .before .before .before .before .before .before .before .before .pre .1,
+  start-3 c .pre .1,
 )
 
 mul-plane-row : tie.Need-mul-plane-row Inv-loop μ-loop
@@ -55,7 +67,7 @@ plane-row-requires c κs =
     (at .inv .1, part)
 
 loop-less : tie.Need-loop-less Inv-loop μ-loop
-loop-less c = omega (arith, c .before .before .before .before .before .before .before .before .before .before .before .before .before .loop-test .taken)
+loop-less c = omega (arith, in-loop c .loop-test .taken)
 
 loop-again : tie.Need-loop-again Inv-loop μ-loop
 unfolding onPart
@@ -82,15 +94,15 @@ loop-again c =
 
 same-length : tie.Need-same-length Inv-loop μ-loop
 same-length c = c .before .loop .inv .1 .line-room
-    ∙ sym (c .before .before .before .before .before .before .before .before .before .before .before .pre .0 .line-room)
+    ∙ sym (start-2 c .pre .0 .line-room)
 
 same-length-2 : tie.Need-same-length-2 Inv-loop μ-loop
 same-length-2 c = c .before .loop .inv .1 .kept .rows-room
-    ∙ sym (c .before .before .before .before .before .before .before .before .before .before .before .pre .0 .kept .rows-room)
+    ∙ sym (start-2 c .pre .0 .kept .rows-room)
 
 same-length-3 : tie.Need-same-length-3 Inv-loop μ-loop
 same-length-3 c = c .before .loop .inv .1 .kept .held-room
-    ∙ sym (c .before .before .before .before .before .before .before .before .before .before .before .pre .0 .kept .held-room)
+    ∙ sym (start-2 c .pre .0 .kept .held-room)
 
 same-length-4 : tie.Need-same-length-4 Inv-loop μ-loop
 same-length-4 c = c .before .loop .inv .3
@@ -102,7 +114,7 @@ returns c =
     let e : at .y ≡ 256 = omega arith in
     let all : take 65536 (at .plane) ≡ at .plane =
     take-all 65536 (at .plane)
-    (omega (arith, at .inv .3, c .before .before .before .before .before .before .before .before .before .before .before .pre .1)) in
+    (omega (arith, at .inv .3, start-2 c .pre .1)) in
     sym all ∙ (rw e at (at .inv .2))
 
 pub plane-rows-spec : {M : Type 1} → statement M

@@ -20,12 +20,27 @@ Inv-loop width offsets index weight line out₀ x₀ out x = (x ≤ 256) × (len
 abbrev μ-loop : tie.MeasureT-loop
 μ-loop width offsets index weight line out₀ x₀ out x = 256 - x
 
+abbrev at-loop : tie.After-slice-known2 Inv-loop μ-loop → tie.At-loop Inv-loop μ-loop
+at-loop c = c .before .before .before .before .before .before
+
+abbrev start : tie.After-loop Inv-loop μ-loop → tie.Start Inv-loop μ-loop
+start c = c .before .before .before .before .before .before .before
+
+abbrev start-2 : tie.In-loop Inv-loop μ-loop → tie.Start Inv-loop μ-loop
+start-2 c = c .before .before .before .before .before .before .before
+
+abbrev start-3 : tie.After-put-four-arg Inv-loop μ-loop → tie.Start Inv-loop μ-loop
+start-3 c = start-2 (c .before .before)
+
+abbrev start-4 : tie.After-slice-known2 Inv-loop μ-loop → tie.Start Inv-loop μ-loop
+start-4 c = start-3 (c .before .before .before)
+
 loop-holds : tie.Need-loop-holds Inv-loop μ-loop
 loop-holds c = (omega arith, refl, λ l y L h. absurd (omega arith))
 
 values-across-requires : tie.Need-values-across-requires Inv-loop μ-loop
 values-across-requires c κs =
-    (c .before .before .before .before .before .before .before .pre .0, c .loop-test .taken, c .before .before .before .before .before .before .before .pre .1)
+    (start-2 c .pre .0, c .loop-test .taken, start-2 c .pre .1)
 
 put-four-requires : tie.Need-put-four-requires Inv-loop μ-loop
 put-four-requires c κs =
@@ -33,13 +48,13 @@ put-four-requires c κs =
       arith,
       c .before .before .loop-test .taken,
       c .before .before .before .loop .inv .1,
-      c .before .before .before .before .before .before .before .before .before .pre .2,
+      start-3 c .pre .2,
     )
 
 loop-again : tie.Need-loop-again Inv-loop μ-loop
 loop-again c =
-    let p = c .before .before .before .before .before .before .before .before .before .before .before .before in
-    let at = c .before .before .before .before .before .before .loop in
+    let p = start-4 c in
+    let at = at-loop c .loop in
     let put = c .before .before .put-four .ensures in
     let f : ℕ → ℕ → Float = λ l x. across (p .args .width) 256 (lane (now (p .args .line)) l) x in
     let made = c .before .before .before .before .values-across in
@@ -53,7 +68,7 @@ loop-again c =
 
 returns : tie.Need-returns Inv-loop μ-loop
 returns c =
-    let p = c .before .before .before .before .before .before .before in
+    let p = start c in
     let at = c .before .loop in
     let e : at .x ≡ 256 = omega arith in
     behind-all nan (λ l x. across (p .args .width) 256 (lane (now (p .args .line)) l) x) (at .out) (at .inv .1 ∙ p .pre .2) (rw e at (at .inv .2))

@@ -26,33 +26,51 @@ Inv-loop x width offsets index weight line a e t₀ u₀ v₀ w₀ n₀ t u v w 
 abbrev μ-loop : tie.MeasureT-loop
 μ-loop x width offsets index weight line a e t₀ u₀ v₀ w₀ n₀ t u v w n = e - n
 
+abbrev at-loop : tie.After-shared-slice-known12 Inv-loop μ-loop → tie.At-loop Inv-loop μ-loop
+at-loop c = c .before .before .before .before .before .before .before .before
+
+abbrev start-of : tie.After-wide2 Inv-loop μ-loop → tie.Start Inv-loop μ-loop
+start-of c = c .before .before .before .before .before .before .before .before
+
+abbrev start-of-2 : tie.After-loop Inv-loop μ-loop → tie.Start Inv-loop μ-loop
+start-of-2 c = start-of (c .before .before)
+
+abbrev start-of-3 : tie.In-loop Inv-loop μ-loop → tie.Start Inv-loop μ-loop
+start-of-3 c = start-of (c .before .before)
+
+abbrev start-of-4 : tie.After-wide3 Inv-loop μ-loop → tie.Start Inv-loop μ-loop
+start-of-4 c = start-of-3 (c .before .before)
+
+abbrev start-of-5 : tie.After-shared-slice-known12 Inv-loop μ-loop → tie.Start Inv-loop μ-loop
+start-of-5 c = start-of-4 (c .before .before .before .before .before)
+
 -- in a turn the place is one of the tables'
 bound : (c : tie.In-loop Inv-loop μ-loop)
-    → c .before .loop .n < start (c .before .before .before .before .before .before .before .before .before .before .args .width) 256 256
-bound c = let p = c .before .before .before .before .before .before .before .before .before .before in
+    → c .before .loop .n < start (start-of-3 c .args .width) 256 256
+bound c = let p = start-of-3 c in
     place-fits (p .pre .0) (p .args .x) (c .before .loop .n) (p .pre .1) (omega arith) (omega arith)
 
 -- and the tap's reads lie in the line
 inside : (c : tie.In-loop Inv-loop μ-loop)
-    → getD (now (c .before .before .before .before .before .before .before .before .before .before .args .index))
-    (c .before .loop .n) 0 < c .before .before .before .before .before .before .before .before .before .before .args .width
-inside c = let p = c .before .before .before .before .before .before .before .before .before .before in
+    → getD (now (start-of-3 c .args .index))
+    (c .before .loop .n) 0 < start-of-3 c .args .width
+inside c = let p = start-of-3 c in
     from-inside (p .pre .0) (p .args .x) (c .before .loop .n) (p .pre .1) (omega arith) (omega arith)
 
 reads : (c : tie.After-wide3 Inv-loop μ-loop)
-    → 4 * c .wide3 .result + 4 ≤ length (now (c .before .before .before .before .before .before .before .before .before .before .before .before .args .line))
+    → 4 * c .wide3 .result + 4 ≤ length (now (start-of-4 c .args .line))
 reads c = omega (
   arith,
   inside
       (c .before .before),
   c .wide3 .ensures,
-  c .before .before .before .before .before .before .before .before .before .before .before .before .pre .2,
+  start-of-4 c .pre .2,
 )
 
 loop-holds : tie.Need-loop-holds Inv-loop μ-loop
 unfolding neg ofBits
 loop-holds c =
-    let p = c .before .before .before .before .before .before .before .before in
+    let p = start-of c in
     let width = p .args .width in
     let x = p .args .x in
     let t : Tables width 256 (now (p .args .offsets)) (now (p .args .index)) (now (p .args .weight)) = p .pre .0 in
@@ -113,8 +131,8 @@ shared-slice-read-w c = omega (arith, reads (c .before .before .before .before .
 loop-again : tie.Need-loop-again Inv-loop μ-loop
 unfolding lane
 loop-again c =
-    let p = c .before .before .before .before .before .before .before .before .before .before .before .before .before .before .before .before .before in
-    let at = c .before .before .before .before .before .before .before .before .loop in
+    let p = start-of-5 c in
+    let at = at-loop c .loop in
     let line = now (p .args .line) in
     let h = at .inv in
     let so : ℕ → ℕ → Float = λ n l. soFar (p .args .width) 256 (p .args .x) n (lane line l) in
@@ -136,7 +154,7 @@ loop-again c =
 returns : tie.Need-returns Inv-loop μ-loop
 unfolding tab
 returns c =
-    let p = c .before .before .before .before .before .before .before .before .before .before in
+    let p = start-of-2 c in
     let at = c .before .loop in
     let line = now (p .args .line) in
     let all : (l : ℕ) (v : Float) → v ≡ soFar (p .args .width) 256 (p .args .x) (at .n) (lane line l)

@@ -13,6 +13,12 @@ use borrow.Author.Needs.{needs}
 use Rattle.resample_up.proofs.change_samples.Statement.{statement}
 use Rattle.resample_up.proofs.change_samples.Tie as tie
 
+abbrev past-taps : tie.After-change-rows-arg → tie.After-taps
+past-taps c = c .before .before .before .before .before .before .before .before .before .before
+
+abbrev start : tie.After-change-rows-arg → tie.Start
+start c = past-taps c .before .before .before .before .before .before
+
 taps-requires : tie.Need-taps-requires
 taps-requires c κs = let p = c .before .before .before .before .before in
     omega (arith, p .pre .0 .width-most, room-up (p .args .width) (p .pre .1) (p .pre .0 .width-most))
@@ -20,10 +26,10 @@ taps-requires c κs = let p = c .before .before .before .before .before in
 change-rows-requires : tie.Need-change-rows-requires
 unfolding ofBits
 change-rows-requires c κs =
-    let p = c .before .before .before .before .before .before .before .before .before .before .before .before .before .before .before .before in
+    let p = start c in
     let a = p .args in
     let s = p .pre .0 in
-    let made = c .before .before .before .before .before .before .before .before .before .before .taps in
+    let made = past-taps c .taps in
     let room = room-up (a .width) (p .pre .1) (s .width-most) in
     let size : a .width - 0 ≡ a .width = omega arith in
     let tables =

@@ -13,6 +13,18 @@ use borrow.Author.Needs.{needs}
 use Rattle.resample_up.proofs.keep.Statement.{statement}
 use Rattle.resample_up.proofs.keep.Tie as tie
 
+abbrev start : tie.Else1 → tie.Start
+start c = c .before .before .before .before .before .before .before .before
+
+abbrev start-2 : tie.Then1 → tie.Start
+start-2 c = c .before .before .before .before .before .before .before .before
+
+abbrev start-3 : tie.After-wide-row-arg → tie.Start
+start-3 c = start (c .before)
+
+abbrev start-4 : tie.After-slice-known4 → tie.Start
+start-4 c = start-3 (c .before .before .before)
+
 -- a place has room for a row
 room : (c : tie.Start) → c .args .k % 2 * 8192 + c .args .width ≤ 16384
 room c = omega (arith, c .pre .0 .kept .fits)
@@ -28,33 +40,33 @@ size c =
 
 returns : tie.Need-returns
 returns c =
-    let p = c .before .before .before .before .before .before .before .before in
+    let p = start-2 c in
     let a = p .args in
     let e : getD (a .held .now) (a .k % 2) 0 ≡ suc (a .k) = c .if1 .taken ∙ add-one (a .k) in
     (p .pre .0, (room p, p .pre .0 .kept .is (a .k % 2) (a .k) (omega arith) e))
 
 add-end : tie.Need-add-end
-add-end c = record { fits = omega (arith, room (c .before .before .before .before .before .before .before .before)) }
+add-end c = record { fits = omega (arith, room (start c)) }
 
 mul-wide-row : tie.Need-mul-wide-row
-mul-wide-row c = record { fits = omega (arith, room (c .before .before .before .before .before .before .before .before)) }
+mul-wide-row c = record { fits = omega (arith, room (start c)) }
 
 part-wide-row-end : tie.Need-part-wide-row-end
 part-wide-row-end c =
     omega (
       arith,
-      room (c .before .before .before .before .before .before .before .before),
-      c .before .before .before .before .before .before .before .before .pre .0 .kept .rows-room,
+      room (start c),
+      start c .pre .0 .kept .rows-room,
     )
 
 wide-row-requires : tie.Need-wide-row-requires
-wide-row-requires c κs = let p = c .before .before .before .before .before .before .before .before .before in
+wide-row-requires c κs = let p = start-3 c in
     (p .pre .1, p .pre .0 .plane, rw (size p) (p .pre .0 .tables))
 
 returns-2 : tie.Need-returns-2
 unfolding onPart
 returns-2 c =
-    let p = c .before .before .before .before .before .before .before .before .before .before .before .before in
+    let p = start-4 c in
     let a = p .args in
     let w = p .pre .0 in
     let slot = a .k % 2 in

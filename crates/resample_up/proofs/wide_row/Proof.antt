@@ -9,6 +9,12 @@ use Rattle.resample_up.specs.Written.{widened}
 use Rattle.resample_up.proofs.wide_row.Statement.{statement}
 use Rattle.resample_up.proofs.wide_row.Tie as tie
 
+abbrev start : tie.After-row-across-arg2 → tie.Start
+start c = c .before .before .before .before .before .before .before
+
+abbrev start-2 : tie.After-slice-known2 → tie.Start
+start-2 c = start (c .before .before .before)
+
 mul-a : tie.Need-mul-a
 mul-a c = record { fits = omega arith }
 
@@ -29,7 +35,7 @@ part-row-across-end c = omega arith
 
 row-across-requires : tie.Need-row-across-requires
 row-across-requires c κs =
-    let p = c .before .before .before .before .before .before .before in
+    let p = start c in
     rw (part-row 256 (now (p .args .change)) (p .args .k), length-row 256 (now (p .args .change)) (p .args .k) (omega arith)) (p .pre .2)
 
 same-length : tie.Need-same-length
@@ -37,7 +43,7 @@ same-length c = ap length (c .before .before .row-across .ensures) ∙ length-ta
 
 returns : tie.Need-returns
 returns c =
-    let p = c .before .before .before .before .before .before .before .before .before .before in
+    let p = start-2 c in
     widened (length (now (p .args .out))) (now (p .args .change)) (p .args .k) _ _ (omega arith) (part-row 256 (now (p .args .change)) (p .args .k))
     (c .before .before .row-across .ensures)
 

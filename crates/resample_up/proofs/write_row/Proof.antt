@@ -22,6 +22,18 @@ Inv-loop row₀ channels delta x₀ x-end row x =
 abbrev μ-loop : tie.MeasureT-loop
 μ-loop row₀ channels delta x₀ x-end row x = x-end - x
 
+abbrev in-loop : tie.After-slice-known4 Inv-loop μ-loop → tie.In-loop Inv-loop μ-loop
+in-loop c = c .before .before .before .before .before .before
+
+abbrev in-loop-2 : tie.After-changed3 Inv-loop μ-loop → tie.In-loop Inv-loop μ-loop
+in-loop-2 c = in-loop (c .before)
+
+abbrev at-loop : tie.After-changed3 Inv-loop μ-loop → tie.At-loop Inv-loop μ-loop
+at-loop c = in-loop-2 c .before
+
+abbrev start : tie.After-changed3 Inv-loop μ-loop → tie.Start Inv-loop μ-loop
+start c = at-loop c .before .before .before
+
 -- in a turn the pixel ends within the row
 fits : (c : tie.In-loop Inv-loop μ-loop)
     → c .before .loop .x * c .before .before .before .before .args .channels + c .before .before .before .before .args .channels ≤ length
@@ -61,23 +73,23 @@ add-changed-2 : tie.Need-add-changed-2 Inv-loop μ-loop
 add-changed-2 c = record { fits = omega (arith, fits (c .before .before .before .before .before)) }
 
 slice-read-changed-3 : tie.Need-slice-read-changed-3 Inv-loop μ-loop
-slice-read-changed-3 c = simp length-set (omega (arith, fits (c .before .before .before .before .before .before)))
+slice-read-changed-3 c = simp length-set (omega (arith, fits (in-loop c)))
 
 add-row-2 : tie.Need-add-row-2 Inv-loop μ-loop
-add-row-2 c = record { fits = omega (arith, fits (c .before .before .before .before .before .before .before)) }
+add-row-2 c = record { fits = omega (arith, fits (in-loop-2 c)) }
 
 slice-write-row-3 : tie.Need-slice-write-row-3 Inv-loop μ-loop
-slice-write-row-3 c = simp length-set (omega (arith, fits (c .before .before .before .before .before .before .before)))
+slice-write-row-3 c = simp length-set (omega (arith, fits (in-loop-2 c)))
 
 loop-again : tie.Need-loop-again Inv-loop μ-loop
 loop-again c =
-    let p = c .before .before .before .before .before .before .before .before .before .before .before in
-    let at = c .before .before .before .before .before .before .before .before .loop in (
+    let p = start c in
+    let at = at-loop c .loop in (
       search needs,
       search needs,
       simp length-set (at .inv .2),
       pixel-more (p .args .channels) (λ k. getD (now (p .args .delta)) k nan) (now (p .args .row)) (at .x) (p .pre .0) (p .pre .1)
-          (fits (c .before .before .before .before .before .before .before)) (at .row) (c .before .before .before .before .changed .result)
+          (fits (in-loop-2 c)) (at .row) (c .before .before .before .before .changed .result)
           (c .before .before .changed2 .result) (c .changed3 .result) (at .inv .3) (c .before .before .before .before .changed .ensures)
           (c .before .before .changed2 .ensures) (c .changed3 .ensures),
     )

@@ -27,6 +27,33 @@ Inv-loop w src n index₀ weight₀ first last count at₀ k₀ index weight at 
 abbrev μ-loop : tie.MeasureT-loop
 μ-loop w src n index₀ weight₀ first last count at₀ k₀ index weight at k = count - k
 
+abbrev at-loop : tie.After-clamp Inv-loop μ-loop → tie.At-loop Inv-loop μ-loop
+at-loop c = c .before .before .before .before .before .before .before
+
+abbrev start : tie.After-loop Inv-loop μ-loop → tie.Start Inv-loop μ-loop
+start c = c .before .before .before .before .before .before .before
+
+abbrev start-2 : tie.In-loop Inv-loop μ-loop → tie.Start Inv-loop μ-loop
+start-2 c = c .before .before .before .before .before .before .before
+
+abbrev past-count : tie.After-clamp Inv-loop μ-loop → tie.After-count Inv-loop μ-loop
+past-count c = at-loop c .before
+
+abbrev start-3 : tie.After-nth Inv-loop μ-loop → tie.Start Inv-loop μ-loop
+start-3 c = start-2 (c .before)
+
+abbrev start-4 : tie.After-weight Inv-loop μ-loop → tie.Start Inv-loop μ-loop
+start-4 c = start-3 (c .before)
+
+abbrev start-5 : tie.After-enum-told Inv-loop μ-loop → tie.Start Inv-loop μ-loop
+start-5 c = start-4 (c .before .before)
+
+abbrev start-6 : tie.After-known-told Inv-loop μ-loop → tie.Start Inv-loop μ-loop
+start-6 c = start-4 (c .before .before .before)
+
+abbrev start-7 : tie.After-clamp Inv-loop μ-loop → tie.Start Inv-loop μ-loop
+start-7 c = start-6 (c .before)
+
 counted : (c : tie.After-count Inv-loop μ-loop)
     → c .count .result ≡ numbers (c .before .before .before .before .before .args .w .first) (c .before .before .before .before .before .args .w .last)
 counted c =
@@ -48,32 +75,32 @@ loop-holds c =
 
 small-k : (c : tie.In-loop Inv-loop μ-loop) → c .before .loop .k ≤ 2 ^ 32
 small-k c =
-    let w = c .before .before .before .before .before .before .before .args .w in
-    let small = c .before .before .before .before .before .before .before .pre .0 in
+    let w = start-2 c .args .w in
+    let small = start-2 c .pre .0 in
     omega (arith, counted (c .before .before), numbers-small (w .first) (w .last) (small .0) (small .1))
 
 nth-requires : tie.Need-nth-requires Inv-loop μ-loop
 nth-requires c κs =
-    let w = c .before .before .before .before .before .before .before .args .w in
-    let small = c .before .before .before .before .before .before .before .pre .0 in
+    let w = start-2 c .args .w in
+    let small = start-2 c .pre .0 in
     (rw (toZ-ofZ w64 (w .first) (small-fits (w .first) (small .0))) (small .0), small-k c)
 
 -- the number of the turn, as the calls are passed it, and its weight
 number : (c : tie.After-nth Inv-loop μ-loop)
-    → toZ w64 (ofZ w64 (c .nth .result)) ≡ c .before .before .before .before .before .before .before .before .args .w .first +ℤ pos (c .before .before .loop .k)
+    → toZ w64 (ofZ w64 (c .nth .result)) ≡ start-3 c .args .w .first +ℤ pos (c .before .before .loop .k)
 number c =
-    let w = c .before .before .before .before .before .before .before .before .args .w in
-    let small = c .before .before .before .before .before .before .before .before .pre .0 in
+    let w = start-3 c .args .w in
+    let small = start-3 c .pre .0 in
     passed (c .nth .result) (w .first) (c .before .before .loop .k) (small .0) (small-k (c .before)) (c .nth .ensures)
 
 weighed : (c : tie.After-weight Inv-loop μ-loop)
-    → c .weight .result ≡ weightOf (c .before .before .before .before .before .before .before .before .before .args .w)
-    (c .before .before .before .before .before .before .before .before .before .args .w .first +ℤ pos (c .before .before .before .loop .k))
-weighed c = c .weight .ensures ∙ ap (weightOf (c .before .before .before .before .before .before .before .before .before .args .w)) (number (c .before))
+    → c .weight .result ≡ weightOf (start-4 c .args .w)
+    (start-4 c .args .w .first +ℤ pos (c .before .before .before .loop .k))
+weighed c = c .weight .ensures ∙ ap (weightOf (start-4 c .args .w)) (number (c .before))
 
 loop-again : tie.Need-loop-again Inv-loop μ-loop
 loop-again c =
-    let a = c .before .before .before .before .before .before .before .before .before .before .before .args in
+    let a = start-5 c .args in
     let k = c .before .before .before .before .before .loop .k in
     let e : tapsTo (a .w) (a .src) k ≡ tapsTo (a .w) (a .src) (k + 1) =
     taps-without (a .w) (a .src) k (sym (weighed (c .before .before)) ∙ c .enum-told .given .1) in
@@ -81,11 +108,11 @@ loop-again c =
     (omega arith, rw (← e) (inv .1), rw (← e) (inv .2), rw (← e) (inv .3), inv .4, inv .5)
 
 clamp-requires : tie.Need-clamp-requires Inv-loop μ-loop
-clamp-requires c κs = c .before .before .before .before .before .before .before .before .before .before .before .before .pre .1
+clamp-requires c κs = start-6 c .pre .1
 
 cast-index : tie.Need-cast-index Inv-loop μ-loop
 cast-index c =
-    let p = c .before .before .before .before .before .before .before .before .before .before .before .before .before in
+    let p = start-7 c in
     record {
       fits = omega (
         arith,
@@ -95,19 +122,19 @@ cast-index c =
     }
 
 weight-of : (c : tie.After-clamp Inv-loop μ-loop)
-    → weightOf (c .before .before .before .before .before .before .before .before .before .before .before .before .before .args .w)
-    (c .before .before .before .before .before .before .before .before .before .before .before .before .before .args .w .first +ℤ pos
-    (c .before .before .before .before .before .before .before .loop .k)) ≡ Of (c .before .before .q .given .0 .0)
+    → weightOf (start-7 c .args .w)
+    (start-7 c .args .w .first +ℤ pos
+    (at-loop c .loop .k)) ≡ Of (c .before .before .q .given .0 .0)
 weight-of c = sym (weighed (c .before .before .before .before)) ∙ c .before .before .q .given .1
 
 -- there is room for the tap of the turn
 room : (c : tie.After-clamp Inv-loop μ-loop)
-    → c .before .before .before .before .before .before .before .loop .at < length
-    (c .before .before .before .before .before .before .before .before .before .before .before .before .before .args .index .now)
+    → at-loop c .loop .at < length
+    (start-7 c .args .index .now)
 room c =
-    let p = c .before .before .before .before .before .before .before .before .before .before .before .before .before in
-    let k = c .before .before .before .before .before .before .before .loop .k in
-    let l : k < numbers (p .args .w .first) (p .args .w .last) = omega (arith, counted (c .before .before .before .before .before .before .before .before)) in
+    let p = start-7 c in
+    let k = at-loop c .loop .k in
+    let l : k < numbers (p .args .w .first) (p .args .w .last) = omega (arith, counted (past-count c)) in
     omega (arith, tap-room (p .args .w) (p .args .src) k (numbers (p .args .w .first) (p .args .w .last)) (c .before .before .q .given .0 .0) l (weight-of c))
 
 mul-index : tie.Need-mul-index Inv-loop μ-loop
@@ -151,7 +178,7 @@ loop-again-2 c =
 
 returns : tie.Need-returns Inv-loop μ-loop
 returns c =
-    let a = c .before .before .before .before .before .before .before .args in
+    let a = start c .args in
     let e : c .before .loop .k ≡ numbers (a .w .first) (a .w .last) = omega (arith, counted (c .before .before)) in
     let inv = c .before .loop .inv in
     (rw e at (inv .1), (rw e at (inv .2), rw e at (inv .3)))

@@ -11,6 +11,9 @@ use borrow.Author.Needs.{needs}
 use Rattle.resample_window.proofs.sample_window.Statement.{statement}
 use Rattle.resample_window.proofs.sample_window.Tie as tie
 
+abbrev start : tie.After-summed → tie.Start
+start c = c .before .before .before .before .before .before
+
 int-to-float-scale : tie.Need-int-to-float-scale
 unfolding inFloat
 int-to-float-scale c = le→leb (c .before .args .src) (2 ^ 53) (omega arith)
@@ -44,8 +47,8 @@ summed-requires c κs =
 
 returns : tie.Need-returns
 returns c =
-    let a = c .before .before .before .before .before .before .args in
-    let p = c .before .before .before .before .before .before .pre in
+    let a = start c .args in
+    let p = start c .pre in
     c .summed .ensures ∙ (ap withSum (is-unsummed (c .before)) ∙ sym (window-sized (a .src) (a .dst) (a .i) (p .0) (p .1) (p .2) (p .3) (p .4)))
 
 pub sample-window-spec : {M : Type 1} → statement M

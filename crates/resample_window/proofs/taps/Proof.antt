@@ -20,6 +20,9 @@ Inv-loop src dst offsets₀ index₀ weight₀ n₀ i₀ offsets index weight n 
 abbrev μ-loop : tie.MeasureT-loop
 μ-loop src dst offsets₀ index₀ weight₀ n₀ i₀ offsets index weight n i = dst - i
 
+abbrev start-of : tie.After-push-arg2 Inv-loop μ-loop → tie.Start Inv-loop μ-loop
+start-of c = c .before .before .before .before .before .before .before .before
+
 loop-holds : tie.Need-loop-holds Inv-loop μ-loop
 loop-holds c =
     let a = c .before .before .before .args in (
@@ -46,7 +49,7 @@ slice-write-offsets c = omega arith
 
 push-requires : tie.Need-push-requires Inv-loop μ-loop
 push-requires c κs =
-    let p = c .before .before .before .before .before .before .before .before in
+    let p = start-of c in
     let a = p .args in
     let at = c .before .before .before .before .loop in
     let w = c .before .before .new .result in

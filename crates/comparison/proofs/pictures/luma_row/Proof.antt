@@ -41,8 +41,13 @@ loop-again : tie.Need-loop-again Inv-loop μ-loop
 loop-again c =
     let args = start (c .before) .args in
     let at = c .before .before .loop in
-    let h : at .x < length (now (args .out)) = omega arith in
-    (search needs, search needs, search needs, rw (at .inv .3, c .luma-from .ensures) (filled-more (lumaAt (args .channels) (now (args .row))) (at .x) (now (args .out)) h))
+    let h : at .x < length (now (args .out)) = omega arith in (
+      search needs,
+      search needs,
+      search needs,
+      rw (at .inv .3, c .luma-from .ensures)
+          (filled-more (lumaAt (args .channels) (now (args .row))) (at .x) (now (args .out)) h),
+    )
 
 returns : tie.Need-returns Inv-loop μ-loop
 returns c =

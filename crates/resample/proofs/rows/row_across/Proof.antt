@@ -19,21 +19,30 @@ Inv-loop offsets index weight source out₀ dst x₀ out x =
 abbrev μ-loop : tie.MeasureT-loop
 μ-loop offsets index weight source out₀ dst x₀ out x = dst - x
 
+abbrev start : tie.After-loop Inv-loop μ-loop → tie.Start Inv-loop μ-loop
+start c = c .before .before .before .before .before .before .before
+
+abbrev start-2 : tie.In-loop Inv-loop μ-loop → tie.Start Inv-loop μ-loop
+start-2 c = c .before .before .before .before .before .before .before
+
+abbrev start-3 : tie.After-value-across Inv-loop μ-loop → tie.Start Inv-loop μ-loop
+start-3 c = start-2 (c .before)
+
 loop-holds : tie.Need-loop-holds Inv-loop μ-loop
 loop-holds c = (search needs, search needs, refl, filled-none _ _)
 
 value-across-requires : tie.Need-value-across-requires Inv-loop μ-loop
-value-across-requires c κs = (c .before .before .before .before .before .before .before .pre, omega arith)
+value-across-requires c κs = (start-2 c .pre, omega arith)
 
 loop-again : tie.Need-loop-again Inv-loop μ-loop
 loop-again c =
     let at = c .before .before .loop in
-    let h : at .x < length (now (c .before .before .before .before .before .before .before .before .args .out)) = omega arith in
+    let h : at .x < length (now (start-3 c .args .out)) = omega arith in
     (search needs, search needs, search needs, rw (at .inv .3, c .value-across .ensures) (filled-more _ _ _ h))
 
 returns : tie.Need-returns Inv-loop μ-loop
 returns c =
-    let out = now (c .before .before .before .before .before .before .before .args .out) in
+    let out = now (start c .args .out) in
     let e : c .before .loop .x ≡ length out = omega arith in
     (rw e at (c .before .loop .inv .3)) ∙ filled-all _ out
 

@@ -21,25 +21,37 @@ Inv-loop x dst offsets index weight source a e t₀ n₀ t n =
 abbrev μ-loop : tie.MeasureT-loop
 μ-loop x dst offsets index weight source a e t₀ n₀ t n = e - n
 
+abbrev start-of : tie.After-wide2 Inv-loop μ-loop → tie.Start Inv-loop μ-loop
+start-of c = c .before .before .before .before .before .before .before .before
+
+abbrev start-of-2 : tie.After-loop Inv-loop μ-loop → tie.Start Inv-loop μ-loop
+start-of-2 c = start-of (c .before .before)
+
+abbrev start-of-3 : tie.In-loop Inv-loop μ-loop → tie.Start Inv-loop μ-loop
+start-of-3 c = start-of (c .before .before)
+
+abbrev start-of-4 : tie.After-shared-slice-known9 Inv-loop μ-loop → tie.Start Inv-loop μ-loop
+start-of-4 c = start-of-3 (c .before .before .before .before)
+
 -- in a turn the place is one of the tables'
 bound : (c : tie.In-loop Inv-loop μ-loop)
-    → c .before .loop .n < start (length (now (c .before .before .before .before .before .before .before .before .before .before .args .source)))
-    (c .before .before .before .before .before .before .before .before .before .before .args .dst)
-    (c .before .before .before .before .before .before .before .before .before .before .args .dst)
-bound c = let p = c .before .before .before .before .before .before .before .before .before .before in
+    → c .before .loop .n < start (length (now (start-of-3 c .args .source)))
+    (start-of-3 c .args .dst)
+    (start-of-3 c .args .dst)
+bound c = let p = start-of-3 c in
     place-fits (p .pre .0) (p .args .x) (c .before .loop .n) (p .pre .1) (omega arith) (omega arith)
 
 -- and the tap's read lies in the source
 inside : (c : tie.In-loop Inv-loop μ-loop)
-    → getD (now (c .before .before .before .before .before .before .before .before .before .before .args .index)) (c .before .loop .n) 0 < length
-    (now (c .before .before .before .before .before .before .before .before .before .before .args .source))
-inside c = let p = c .before .before .before .before .before .before .before .before .before .before in
+    → getD (now (start-of-3 c .args .index)) (c .before .loop .n) 0 < length
+    (now (start-of-3 c .args .source))
+inside c = let p = start-of-3 c in
     from-inside (p .pre .0) (p .args .x) (c .before .loop .n) (p .pre .1) (omega arith) (omega arith)
 
 loop-holds : tie.Need-loop-holds Inv-loop μ-loop
 unfolding neg ofBits
 loop-holds c =
-    let p = c .before .before .before .before .before .before .before .before in
+    let p = start-of c in
     let src = length (now (p .args .source)) in
     let t : Tables src (p .args .dst) (now (p .args .offsets)) (now (p .args .index)) (now (p .args .weight)) = p .pre .0 in
     let a : c .before .before .wide .result ≡ start src (p .args .dst) (p .args .x) =
@@ -72,7 +84,7 @@ shared-slice-read-t-2 c = omega (arith, inside (c .before .before .before .befor
 
 loop-again : tie.Need-loop-again Inv-loop μ-loop
 loop-again c =
-    let p = c .before .before .before .before .before .before .before .before .before .before .before .before .before .before in
+    let p = start-of-4 c in
     let at = c .before .before .before .before .before .loop in
     let src = length (now (p .args .source)) in
     let t : Tables src (p .args .dst) (now (p .args .offsets)) (now (p .args .index)) (now (p .args .weight)) = p .pre .0 in
@@ -87,7 +99,7 @@ loop-again c =
 
 returns : tie.Need-returns Inv-loop μ-loop
 returns c =
-    let p = c .before .before .before .before .before .before .before .before .before .before in
+    let p = start-of-2 c in
     let at = c .before .loop in
     all-there (length (now (p .args .source))) (p .args .dst) (p .args .x) (at .n) (at .t) (λ k. getD (now (p .args .source)) k nan) (omega arith) (at .inv .4)
 

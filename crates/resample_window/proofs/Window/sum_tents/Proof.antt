@@ -20,6 +20,12 @@ Inv-loop self first last count sum₀ k₀ sum k = (k ≤ count) × (sum ≡ ten
 abbrev μ-loop : tie.MeasureT-loop
 μ-loop self first last count sum₀ k₀ sum k = count - k
 
+abbrev start : tie.After-tent Inv-loop μ-loop → tie.Start Inv-loop μ-loop
+start c = c .before .before .before .before .before .before .before
+
+abbrev start-2 : tie.Joined1 Inv-loop μ-loop → tie.Start Inv-loop μ-loop
+start-2 c = start (c .before)
+
 counted : (c : tie.After-count Inv-loop μ-loop)
     → c .count .result ≡ numbers (c .before .before .before .args .self .first) (c .before .before .before .args .self .last)
 counted c =
@@ -44,18 +50,18 @@ nth-requires c κs =
     (rw (toZ-ofZ w64 (w .first) (small-fits (w .first) (small .0))) (small .0), small-k c)
 
 is-tent : (c : tie.After-tent Inv-loop μ-loop)
-    → c .tent .result ≡ tentOf (c .before .before .before .before .before .before .before .args .self)
-    (c .before .before .before .before .before .before .before .args .self .first +ℤ pos (c .before .before .before .loop .k))
+    → c .tent .result ≡ tentOf (start c .args .self)
+    (start c .args .self .first +ℤ pos (c .before .before .before .loop .k))
 is-tent c =
-    let w = c .before .before .before .before .before .before .before .args .self in
-    let small = c .before .before .before .before .before .before .before .pre in
+    let w = start c .args .self in
+    let small = start c .pre in
     c .tent .ensures ∙ ap (tentOf w)
     (passed (c .before .nth .result) (w .first) (c .before .before .before .loop .k) (small .0) (small-k (c .before .before)) (c .before .nth .ensures))
 
 loop-again : tie.Need-loop-again Inv-loop μ-loop
 unfolding ofBits
 loop-again c =
-    let w = c .before .before .before .before .before .before .before .before .args .self in
+    let w = start-2 c .args .self in
     let k = c .before .before .before .before .loop .k in
     let s = c .before .before .before .before .loop .sum in
     let e = c .before .before .before .before .loop .inv .1 in (
