@@ -28,6 +28,9 @@ Inv-loop2 m s0 s1 next₀ odd₀ k₀ next odd k =
 abbrev μ-loop2 : tie.MeasureT-loop2
 μ-loop2 m s0 s1 next₀ odd₀ k₀ next odd k = 64 - k
 
+abbrev start : tie.After-put2 Inv-loop μ-loop Inv-loop2 μ-loop2 → tie.Start Inv-loop μ-loop Inv-loop2 μ-loop2
+start c = c .before .before .before .before .before .before
+
 loop-holds : tie.Need-loop-holds Inv-loop μ-loop Inv-loop2 μ-loop2
 unfolding tab packed
 loop-holds c = (omega arith, refl, refl, refl)
@@ -71,7 +74,7 @@ put-requires-2 c κs =
 
 loop2-again : tie.Need-loop2-again Inv-loop μ-loop Inv-loop2 μ-loop2
 loop2-again c =
-    let a = c .before .before .before .before .before .before .args in
+    let a = start c .args in
     let l = c .before .before .before .loop2 in
     let w = c .before .winner-of2 .ensures in (
       omega arith,

@@ -20,6 +20,9 @@ Inv-loop decisions end bits₀ state₀ t₀ bits state t =
 abbrev μ-loop : tie.MeasureT-loop
 μ-loop decisions end bits₀ state₀ t₀ bits state t = t
 
+abbrev start : tie.After-bit-of Inv-loop μ-loop → tie.Start Inv-loop μ-loop
+start c = c .before .before .before .before .before .before
+
 loop-holds : tie.Need-loop-holds Inv-loop μ-loop
 unfolding tracedFrom tracedPath
 loop-holds c =
@@ -32,7 +35,7 @@ loop-holds c =
 loop-again : tie.Need-loop-again Inv-loop μ-loop
 loop-again c =
     let l = c .before .before .before .loop in
-    let a = c .before .before .before .before .before .before .args in
+    let a = start c .args in
     let u = l .t - 1 in
     let e : suc u ≡ l .t = omega arith in
     let U : u < length (a .decisions .now) = omega arith in

@@ -21,14 +21,23 @@ Inv-loop soft decisions₀ metric₀ t₀ decisions metric t =
 abbrev μ-loop : tie.MeasureT-loop
 μ-loop soft decisions₀ metric₀ t₀ decisions metric t = length decisions₀ - t
 
+abbrev at-loop : tie.After-metric2 Inv-loop μ-loop → tie.At-loop Inv-loop μ-loop
+at-loop c = c .before .before .before .before .before .before
+
+abbrev start : tie.After-end-of Inv-loop μ-loop → tie.Start Inv-loop μ-loop
+start c = c .before .before .before .before .before .before .before
+
+abbrev start-2 : tie.After-metric2 Inv-loop μ-loop → tie.Start Inv-loop μ-loop
+start-2 c = at-loop c .before .before .before .before
+
 loop-holds : tie.Need-loop-holds Inv-loop μ-loop
 unfolding metricsAfter starting decisionRows ofBits
 loop-holds c = (omega arith, refl, c .before .before .before .pre, rw (c .minus-infinity .ensures) refl, refl)
 
 loop-again : tie.Need-loop-again Inv-loop μ-loop
 loop-again c =
-    let l = c .before .before .before .before .before .before .loop in
-    let a = c .before .before .before .before .before .before .before .before .before .before .args in
+    let l = at-loop c .loop in
+    let a = start-2 c .args in
     let k = length-set (l .decisions) (l .t) (c .before .advance .result .odd) in
     let L : 2 * l .t + 1 < length (a .soft .now) = omega arith in (
       omega (arith, k),
@@ -44,7 +53,7 @@ returns : tie.Need-returns Inv-loop μ-loop
 unfolding strength
 returns c =
     let l = c .before .before .before .loop in
-    let a = c .before .before .before .before .before .before .before .args in
+    let a = start c .args in
     let whole : take (2 * l .t) (a .soft .now) ≡ a .soft .now = take-all (2 * l .t) (a .soft .now) (omega arith) in (
       c .end-of .ensures .0,
       c .end-of .ensures .1 ∙ ap (λ (m : List Float). getD m 0 nan) (l .inv .3 ∙ ap (metricsAfter floats (starting floats)) whole),

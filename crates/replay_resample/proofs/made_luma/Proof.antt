@@ -44,20 +44,6 @@ loop-again c = (search needs, search needs, search needs, search needs)
 pub made-luma-spec : {M : Type 1} → statement M
 made-luma-spec =
     tie.close
-    (tie.spec
-    Inv-loop
-    μ-loop
-    (λ c. search needs)
-    (λ c κs. search needs)
-    loop-holds
-    mul-luma-from
-    (λ c. search needs)
-    luma-from-requires
-    (λ c. search needs)
-    (λ c. search needs)
-    (λ c. search needs)
-    (λ c. search needs)
-    loop-again
-    (λ c κs. search needs)
-    (λ c. search needs)
+    (tie.spec Inv-loop μ-loop (λ c. search needs) (λ c κs. search needs) loop-holds mul-luma-from (λ c. search needs) luma-from-requires
+    (λ c. search needs) (λ c. search needs) (λ c. search needs) (λ c. search needs) loop-again (λ c κs. search needs) (λ c. search needs)
     (λ c. search needs))

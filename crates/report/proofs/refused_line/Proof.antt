@@ -9,6 +9,15 @@ use Rattle.report.specs.Put.{puts-line}
 use Rattle.report.proofs.refused_line.Statement.{statement}
 use Rattle.report.proofs.refused_line.Tie as tie
 
+abbrev past-decimal : tie.After-bytes9 → tie.After-decimal
+past-decimal c = c .before .before .before .before .before .before
+
+abbrev start-of : tie.After-decimal → tie.Start
+start-of c = c .before .before .before .before .before .before
+
+abbrev past-decimal-2 : tie.After-decimal2 → tie.After-decimal
+past-decimal-2 c = past-decimal (c .before)
+
 number-short : (c : tie.Start) → length (decimal (c .args .number)) ≤ 20
 number-short c = length-decimal 19 (c .args .number) (omega (arith, c .fits .number))
 
@@ -21,19 +30,19 @@ decimal-requires c κs = omega (arith, number-short (c .before .before .before .
 bytes-requires-2 : tie.Need-bytes-requires-2
 bytes-requires-2 c κs =
     let counted = c .before .before .before in
-    omega (arith, number-short (counted .before .before .before .before .before .before))
+    omega (arith, number-short (start-of counted))
 
 decimal-requires-2 : tie.Need-decimal-requires-2
 decimal-requires-2 c κs =
-    let counted = c .before .before .before .before .before .before in
-    let start = counted .before .before .before .before .before .before in
+    let counted = past-decimal c in
+    let start = start-of counted in
     omega (arith, number-short start, given-short start)
 
 bytes-requires-3 : tie.Need-bytes-requires-3
 bytes-requires-3 c κs =
     let shown = c .before .before .before in
-    let counted = shown .before .before .before .before .before .before .before in
-    let start = counted .before .before .before .before .before .before in
+    let counted = past-decimal-2 shown in
+    let start = start-of counted in
     omega (arith, number-short start, given-short start)
 
 returns : tie.Need-returns

@@ -22,29 +22,30 @@ Inv-loop key from range nonce at₀ at = drawn (streamOf key) range (drawsFrom a
 abbrev μ-loop : tie.MeasureT-loop
 μ-loop key from range nonce at₀ at = leftAt at
 
-granted : (c : tie.After-next Inv-loop μ-loop) → let at = c .before .before .before .before .before .before .loop .at in
+granted : (c : tie.After-next Inv-loop μ-loop) → let asked = c .before .before .before in let at = asked .before .before .before .loop .at in
     (8 ≤ leftAt at) × (c .next .given .0 .0 ≡ at + 8)
 granted c =
-    let at = c .before .before .before .before .before .before .loop .at in
+    let asked = c .before .before .before in
+    let at = asked .before .before .before .loop .at in
     let next = c .next .given .0 .0 in
-    let answer : appliedOf at 8 ≡ Next next = sym (c .before .before .before .apply .ensures .0) ∙ c .next .given .1 in
+    let answer : appliedOf at 8 ≡ Next next = sym (asked .apply .ensures .0) ∙ c .next .given .1 in
     let enough : 8 ≤ leftAt at = next-granted at 8 next answer in
     (enough, cc (applied-next at 8 enough))
 
 drawn-value : (c : tie.After-value-of Inv-loop μ-loop)
-    → c .value-of .result
-    ≡ valueAt (streamOf (now (c .before .before .before .before .before .before .before .before .before .before .args .key)))
-    (c .before .before .before .before .before .before .before .before .before .loop .at)
+    → (let next = c .before .before .before in let asked = next .before .before .before in let t = asked .before .before .before in
+    c .value-of .result ≡ valueAt (streamOf (now (t .before .args .key))) (t .loop .at))
 drawn-value c =
+    let next = c .before .before .before in
     c .value-of .ensures
-    ∙ (ap (λ (l : List ℕ). valueAt (λ k. getD l k 0) 0) (c .before .before .before .before .before .before .apply .ensures .1)
-    ∙ value-drawn _ _ (granted (c .before .before .before) .0))
+    ∙ (ap (λ (l : List ℕ). valueAt (λ k. getD l k 0) 0) (next .before .before .before .apply .ensures .1) ∙ value-drawn _ _ (granted next .0))
 
 returns : tie.Need-returns Inv-loop μ-loop
 returns c =
-    let l = c .before .before .before .before .before .before .loop in
-    let start = c .before .before .before .before .before .before .before .args in
-    let few : leftAt (l .at) < 8 = end-refused (l .at) 8 (sym (c .before .before .before .apply .ensures .0) ∙ c .enum-told .given .1) in
+    let asked = c .before .before .before in
+    let l = asked .before .before .before .loop in
+    let start = asked .before .before .before .before .args in
+    let few : leftAt (l .at) < 8 = end-refused (l .at) 8 (sym (asked .apply .ensures .0) ∙ c .enum-told .given .1) in
     sym (draws-end (streamOf (now (start .key))) (start .range) (l .at) few) ∙ l .inv
 
 rem-t15 : tie.Need-rem-t15 Inv-loop μ-loop
@@ -52,9 +53,11 @@ rem-t15 c = range-some _ _ (sym (c .before .accepted .ensures) ∙ c .if1 .taken
 
 returns-2 : tie.Need-returns-2 Inv-loop μ-loop
 returns-2 c =
-    let l = c .before .before .before .before .before .before .before .before .before .before .before .loop in
-    let start = c .before .before .before .before .before .before .before .before .before .before .before .before .args in
-    let g = granted (c .before .before .before .before .before) in
+    let next = c .before .before .before .before .before in
+    let asked = next .before .before .before in
+    let l = asked .before .before .before .loop in
+    let start = asked .before .before .before .before .args in
+    let g = granted next in
     let v = drawn-value (c .before .before) in
     let t : ltb (valueAt (streamOf (now (start .key))) (l .at)) (limit (start .range)) ≡ true =
     sym (ap (λ (n : ℕ). ltb n (limit (start .range))) v) ∙ (sym (c .before .accepted .ensures) ∙ c .if1 .taken) in
@@ -65,9 +68,11 @@ loop-less c = let g = granted (c .before .before .before .before .before) in ome
 
 loop-again : tie.Need-loop-again Inv-loop μ-loop
 loop-again c =
-    let l = c .before .before .before .before .before .before .before .before .before .before .before .loop in
-    let start = c .before .before .before .before .before .before .before .before .before .before .before .before .args in
-    let g = granted (c .before .before .before .before .before) in
+    let next = c .before .before .before .before .before in
+    let asked = next .before .before .before in
+    let l = asked .before .before .before .loop in
+    let start = asked .before .before .before .before .args in
+    let g = granted next in
     let v = drawn-value (c .before .before) in
     let t : ltb (valueAt (streamOf (now (start .key))) (l .at)) (limit (start .range)) ≡ false =
     sym (ap (λ (n : ℕ). ltb n (limit (start .range))) v) ∙ (sym (c .before .accepted .ensures) ∙ c .if1 .left) in

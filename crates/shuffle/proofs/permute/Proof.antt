@@ -18,9 +18,30 @@ Inv-loop key count list₀ at₀ i₀ list at i =
 abbrev μ-loop : tie.MeasureT-loop
 μ-loop key count list₀ at₀ i₀ list at i = count - i
 
+abbrev at-loop : tie.After-exchange-arg Inv-loop μ-loop → tie.At-loop Inv-loop μ-loop
+at-loop c = c .before .before .before .before .before .before
+
+abbrev past-r : tie.After-slice-known2 Inv-loop μ-loop → tie.After-r Inv-loop μ-loop
+past-r c = c .before .before .before .before .before .before
+
+abbrev start-of : tie.After-enum-told Inv-loop μ-loop → tie.Start Inv-loop μ-loop
+start-of c = c .before .before .before .before .before .before
+
+abbrev start-of-2 : tie.After-r Inv-loop μ-loop → tie.Start Inv-loop μ-loop
+start-of-2 c = c .before .before .before .before .before .before
+
+abbrev past-draw : tie.After-slice-known2 Inv-loop μ-loop → tie.After-draw Inv-loop μ-loop
+past-draw c = past-r c .before .before
+
+abbrev at-loop-2 : tie.After-slice-known2 Inv-loop μ-loop → tie.At-loop Inv-loop μ-loop
+at-loop-2 c = past-draw c .before .before
+
+abbrev start-of-3 : tie.After-slice-known2 Inv-loop μ-loop → tie.Start Inv-loop μ-loop
+start-of-3 c = at-loop-2 c .before .before
+
 -- the number drawn reaches no further than the list
 below : (c : tie.After-r Inv-loop μ-loop) → let l = c .before .before .before .before .loop in c .r .given .0 .0 < length (l .list) - l .i
-below c = drawn-below _ _ _ _ _ _ (omega (arith, c .before .before .before .before .loop .inv, c .before .before .before .before .before .before .pre))
+below c = drawn-below _ _ _ _ _ _ (omega (arith, c .before .before .before .before .loop .inv, start-of-2 c .pre))
     (sym (c .before .before .draw .ensures) ∙ c .r .given .1)
 
 loop-holds : tie.Need-loop-holds Inv-loop μ-loop
@@ -38,7 +59,7 @@ same-length c = c .before .before .before .before .loop .inv .1
 returns : tie.Need-returns Inv-loop μ-loop
 returns c =
     let l = c .before .before .before .before .loop in
-    let start = c .before .before .before .before .before .before .args in
+    let start = start-of c .args in
     let ended = sym (c .before .before .draw .ensures) ∙ c .enum-told .given .1 in (
       search needs,
       l .inv .1,
@@ -47,17 +68,17 @@ returns c =
     )
 
 place-of-requires : tie.Need-place-of-requires Inv-loop μ-loop
-place-of-requires c κs = omega (arith, below (c .before .before), c .before .before .before .before .before .before .loop .inv .1)
+place-of-requires c κs = omega (arith, below (c .before .before), at-loop c .loop .inv .1)
 
 exchange-requires : tie.Need-exchange-requires Inv-loop μ-loop
 exchange-requires c κs = omega (arith, below (c .before .before .before), c .place-of .ensures)
 
 loop-again : tie.Need-loop-again Inv-loop μ-loop
 loop-again c =
-    let l = c .before .before .before .before .before .before .before .before .before .before .loop in
-    let start = c .before .before .before .before .before .before .before .before .before .before .before .before .args in
-    let found = sym (c .before .before .before .before .before .before .before .before .draw .ensures)
-    ∙ c .before .before .before .before .before .before .r .given .1 in (
+    let l = at-loop-2 c .loop in
+    let start = start-of-3 c .args in
+    let found = sym (past-draw c .draw .ensures)
+    ∙ past-r c .r .given .1 in (
       search needs,
       search needs,
       rw (c .before .before .exchange .ensures, c .before .before .before .place-of .ensures)

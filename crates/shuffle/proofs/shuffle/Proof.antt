@@ -12,6 +12,9 @@ use Rattle.shuffle.specs.Entries.{front-made}
 use Rattle.shuffle.proofs.shuffle.Statement.{statement}
 use Rattle.shuffle.proofs.shuffle.Tie as tie
 
+abbrev past-permute : tie.After-slice-known2 → tie.After-permute
+past-permute c = c .before .before .before .before .before .before
+
 held-length : (c : tie.After-rising) → length (take (c .before .before .before .held .result) (c .rising .result)) ≡ c .before .before .before .held .result
 held-length c =
     let l : length (c .rising .result) ≡ 4096 = ap length (c .rising .ensures) ∙ length-tab (λ (k : ℕ). k) 4096 in
@@ -51,7 +54,7 @@ slice-aggregate-lay-out c = sym (length-take-le _ _ (array-share-prefix-list (c 
 
 returns : tie.Need-returns
 returns c =
-    let after = c .before .before .before .before .before .before in
+    let after = past-permute c in
     let front = take-append-le _ _ _ (found-made after .0) ∙ found-made after .1 in
     (sym (length-take-le _ _ (found-made after .0)) ∙ ap length (found-made after .1), c .before .before .lay-out .ensures ∙ ap (lentFor _) front)
 

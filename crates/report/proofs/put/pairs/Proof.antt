@@ -21,6 +21,9 @@ Inv-loop text out₀ at to₀ i₀ i-end out to i = (i-end ≡ length text) × (
 abbrev μ-loop : tie.MeasureT-loop
 μ-loop text out₀ at to₀ i₀ i-end out to i = i-end - i
 
+abbrev past-digit : tie.After-slice-known3 Inv-loop μ-loop → tie.After-digit Inv-loop μ-loop
+past-digit c = c .before .before .before .before .before .before
+
 -- the two digits of byte i fit behind those of the bytes before it
 fits : (text : List ℕ) (i : ℕ) → i < length text → length (pairs (take i text)) + 2 ≤ length (pairs text)
 fits text i h = omega (arith, length-pairs text, length-pairs (take i text), length-take-le i text (omega arith))
@@ -49,7 +52,7 @@ digit-requires-2 c κs =
 
 loop-again : tie.Need-loop-again Inv-loop μ-loop
 loop-again c =
-    let high = c .before .before .before .before .before .before in
+    let high = past-digit c in
     let turn = high .before .before .before in
     let l = turn .before .loop in
     let start = turn .before .before .before .before in
