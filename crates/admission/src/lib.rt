@@ -1,5 +1,7 @@
 // Whether a picture with its samples and a work area can be used: the limits on sides, channels, samples and work area,
 // with the refusals in their order. For `resilient`. From the scope, which specs/Admission.antt states.
+#![tactic(auto)]
+
 ghost use Rattle.std.specs.Prelude.{◌≡◌, ◌||◌, ◌*◌, ◌≤◌, eqb};
 ghost use Rattle.admission.specs.Admission.{shorter, longer, admission, write_admission, read_admission};
 ghost use Rattle.picture.specs.Sizes.{longest_side};

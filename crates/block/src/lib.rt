@@ -2,6 +2,8 @@
 // block's vote, and blocks out of the 256 x 256 plane and into it.
 // Every promise is an equation over the definitions in specs/, for every value, finite or not; that a vote of
 // values within a bound lies from -1 to 1, and how large values can become, are laws about those definitions.
+#![tactic(auto)]
+
 ghost use Rattle.std.specs.Prelude.{◌≡◌, [], ◌∷◌, ◌≤◌, ◌<◌, length, get_or};
 ghost use Rattle.std.specs.Float.{nan};
 ghost use Rattle.dct.specs.Grid.{cell, block_line};

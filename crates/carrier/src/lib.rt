@@ -1,6 +1,8 @@
 // A picture as the carrier of 1,024 bits, in a lent work area: the bits of its blocks put into its samples, and its blocks'
 // votes on the bits that they carry. For the crate `resilient`, which refuses before; the promises are equations over
 // the definitions in specs/Carrier.antt.
+#![tactic(auto)]
+
 ghost use Rattle.std.specs.Prelude.{◌≡◌, ◌≤◌, length};
 ghost use Rattle.picture.specs.Sizes.{Sized, plane_size, shortest_to_write};
 ghost use Rattle.carrier.specs.Carrier.{cleared, marked_samples, picture_votes};

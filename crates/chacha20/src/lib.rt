@@ -1,5 +1,7 @@
 // ChaCha20's block function from RFC 8439, sections 2.1 to 2.3. For the keystream and the dither. Everything is held to
 // specs/Rfc8439.antt, which is that document's text as a definition; the numbers in the comments are its sections.
+#![tactic(auto)]
+
 ghost use Rattle.std.specs.Prelude.{◌≡◌, ◌+◌, ◌*◌, ◌<◌, length, slice_set};
 ghost use Rattle.chacha20.specs.Rfc8439.{roll, quarter, quarter_round, inner_block, rounds, initial, sums, serialized, block_from, chacha_block};
 ghost use Rattle.seq.specs.Bytes.{word};

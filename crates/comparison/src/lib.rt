@@ -1,5 +1,7 @@
 // Each stage of the port under a C name, for the comparison with the Rust and for the benchmarks: thin calls,
 // each with the promise of what it calls.
+#![tactic(auto)]
+
 mod block8;
 mod cipher;
 mod code;

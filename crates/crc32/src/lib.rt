@@ -1,6 +1,8 @@
 // CRC-32 as IEEE Std 802.3 defines it in 3.2.9 (specs/Ieee8023.antt), for checks of records and files: the one of zlib, gzip
 // and PNG. The message goes through the shift register of that polynomial eight bytes at a time, by a table of what the
 // register's turns make of four bits.
+#![tactic(auto)]
+
 mod table;
 
 ghost use Rattle.std.specs.Prelude.{◌≡◌, ◌+◌, ◌*◌, ◌%◌, ◌≤◌, ◌<◌, length};

@@ -1,5 +1,7 @@
 // The 8x8 transform of a block and its inverse (section 13 of the scope), for the crate `plane`. Every promise is an equation
 // over the definitions in specs/Dct.antt, for every value, finite or not.
+#![tactic(auto)]
+
 mod matrix;
 
 ghost use Rattle.std.specs.Prelude.{◌≡◌, ◌<◌};

@@ -2,6 +2,8 @@
 // on soft decisions. It finds the record whose coded bits the votes favour most. A positive vote speaks for a coded 0, a
 // negative one for a 1. The path begins in state 0 and ends there. The definition is specs/Decoder.antt; what may be
 // relied on beyond it is proved in the crate `correction`.
+#![tactic(auto)]
+
 mod outputs;
 
 ghost use Rattle.std.specs.Prelude.{◌≡◌, true, ◌+◌, ◌*◌, ◌/◌, ◌%◌, ◌^◌, ◌<◌, ◌≤◌, length, get_or};

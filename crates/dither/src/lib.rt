@@ -2,6 +2,8 @@
 // of the layout's key with nonce 1, without its low eight bits, over 2^24. A ChaCha20 block has the sixteen numbers of four
 // picture blocks, so each is made where it is used and none is kept. The picture's 1,024 blocks take 256 of the 2^32 blocks that a
 // keystream has, so that it does not end here.
+#![tactic(auto)]
+
 ghost use Rattle.std.specs.Prelude.{◌≡◌, ◌+◌, ◌*◌, ◌/◌, ◌^◌, pos};
 ghost use Rattle.seq.specs.Lists.{tab};
 ghost use Rattle.std.specs.Float.{binary32};

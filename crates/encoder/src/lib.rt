@@ -2,6 +2,8 @@
 // generators octal 171 and 133, without the inversion of its second output. Each bit of the record, most significant
 // first, and then six zeros give two coded bits. The definition is specs/Ccsds131.antt; the decoder is the crate
 // `decoder`.
+#![tactic(auto)]
+
 ghost use Rattle.std.specs.Prelude.{◌≡◌, ◌+◌, ◌*◌, ◌≤◌, length, get_or};
 ghost use Rattle.encoder.specs.Ccsds131.{parity, encode_of, record_bits, six_zeros};
 

@@ -1,6 +1,8 @@
 // From the votes of a picture's blocks to the record that they decode to, and to its text. For the crate `resilient`, whose
 // votes are a picture's, and for those who have votes only; the one place that knows the order in which votes are refused.
 // The definition is specs/Extract.antt; what may be relied on beyond it is specs/Theorems.antt and specs/EndToEnd.antt.
+#![tactic(auto)]
+
 ghost use Rattle.std.specs.Prelude.{◌≡◌, length};
 ghost use Rattle.record.specs.Record.{Outcome};
 ghost use Rattle.picture.specs.Sizes.{block_count};

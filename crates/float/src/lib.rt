@@ -1,6 +1,8 @@
 // Rust's library calls on floats that the port needs, for every value: a NaN, an infinity, both zeros,
 // subnormals and numbers of every size. What each gives is defined in specs/Calls.antt, over the format;
 // the laws on floats that the crates above need stand beside it.
+#![tactic(auto)]
+
 ghost use Rattle.std.specs.Prelude.{◌≡◌, max, T, from_bits};
 ghost use Rattle.std.specs.Float.{binary32, binary64};
 ghost use Rattle.std.specs.Float.Ieee.{lt, to_signed};

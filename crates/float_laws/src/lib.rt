@@ -1,2 +1,3 @@
 // Laws on floats above what the functions of float need: bounds on sizes, values that are whole numbers of a unit,
 // errors of sums. There is no code here; the laws stand in specs/.
+#![tactic(auto)]

@@ -1,6 +1,8 @@
 // The keystream of a key and a nonce, RFC 8439, section 2.4, put onto lent bytes from any position on. For
 // the record's cipher and the shuffle. Held to chacha20's specs/Rfc8439.antt and, for the keystream's end,
 // to specs/Apply.antt.
+#![tactic(auto)]
+
 ghost use Rattle.std.specs.Prelude.{◌≡◌, ◌+◌, ◌-◌, ◌≤◌, ◌<◌, min, length, get_or};
 ghost use Rattle.chacha20.specs.Rfc8439.{xored, encrypted};
 ghost use Rattle.keystream.specs.Apply.{left_at, applied_of, bytes_after, applied_number};

@@ -1,6 +1,8 @@
 // Where the coded bits stand in the picture. Place j of 1,024 stands in block `LAYOUT[j]` and carries coded bit
 // j mod 748, so that bits 0 to 275 are carried twice and the others once. The definitions are specs/Layout.antt and
 // specs/Places.antt.
+#![tactic(auto)]
+
 ghost use Rattle.std.specs.Prelude.{◌≡◌, ◌<◌};
 ghost use Rattle.encoder.specs.Ccsds131.{coded_bits};
 ghost use Rattle.layout.specs.Layout.{layout, block_of};

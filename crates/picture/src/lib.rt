@@ -1,5 +1,6 @@
 // A picture: what a caller says of the samples that it lends, and the sizes that pictures and the plane have. Its rows are
 // defined in specs/Sizes.antt.
+#![tactic(auto)]
 
 // The longest side, and the shorter side that writing needs.
 pub const LONGEST: usize = 8192;

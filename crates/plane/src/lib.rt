@@ -1,6 +1,8 @@
 // The mark on the 256 x 256 plane, for the crate `carrier`: the change that puts a bit into each of its 1,024 blocks,
 // and each block's vote on the bit that it carries. The promises are equations over the definitions in
 // specs/Plane.antt, for every value; specs/Finite.antt has the bounds for the plane of a picture.
+#![tactic(auto)]
+
 ghost use Rattle.std.specs.Prelude.{◌≡◌, ◌+◌, ◌*◌, ◌<◌, length, get_or};
 ghost use Rattle.std.specs.Float.{nan, binary32};
 ghost use Rattle.std.specs.Float.Ieee.{sub};

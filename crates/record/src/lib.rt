@@ -1,6 +1,8 @@
 // The record: 46 bytes that hold a text of at most 32, in the clear or under a key. From the scope, section 6, which
 // specs/Record.antt states. Here are its places, what it is written and read with, and what writing (`record_build`) and
 // reading (`record_parse`) share: the cipher, the CRC-32 and the reading of what is refused.
+#![tactic(auto)]
+
 pub mod crc;
 
 ghost use Rattle.std.specs.Prelude.{◌≡◌, ◌≤◌, length, replicate};

@@ -1,5 +1,7 @@
 // The writing of a record: a text checked, laid out with its CRC-32 and put under a key where one is given. The Rust's
 // `build_record`; the definition stands in record/specs/Record.antt.
+#![tactic(auto)]
+
 ghost use Rattle.std.specs.Prelude.{◌≡◌, ◌++◌, ◌≤◌, leb, length, replicate};
 ghost use Rattle.record.specs.Record.{Outcome, short, size, locked, head_of, laid_out, record_of, built_of};
 ghost use Rattle.record_build.specs.Answers.{built_as};

@@ -1,5 +1,7 @@
 // The inside of a record in the clear: length, padding, inner CRC and text, tested in this order. For `record_parse`. The
 // definition stands in record/specs/Record.antt.
+#![tactic(auto)]
+
 ghost use Rattle.std.specs.Prelude.{◌≡◌, length};
 ghost use Rattle.record.specs.Record.{short, size, all_zero, sound, inside_of};
 ghost use Rattle.record.specs.Answers.{read_as};

@@ -1,5 +1,7 @@
 // The reading of a record, with every refusal in its order. The Rust's `parse_record`; the definition stands in
 // record/specs/Record.antt.
+#![tactic(auto)]
+
 ghost use Rattle.std.specs.Prelude.{◌≡◌, not, ◌&&◌, eqb, length, get_or};
 ghost use Rattle.record.specs.Record.{short, outer_at, size, intact, parsed_of};
 ghost use Rattle.record.specs.Answers.{read_as};

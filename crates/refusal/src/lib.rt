@@ -1,5 +1,7 @@
 // The reasons to refuse a call, in the order of their numbers, each with the value that the number given is made of;
 // and the answer of a call, Done or refused. The one place that knows them. Hosts see two numbers: `code` and `given_for`.
+#![tactic(auto)]
+
 ghost use Rattle.std.specs.Prelude.{◌≡◌};
 ghost use Rattle.refusal.specs.Numbers.{number_of, given_of, code_of, given_for, first};
 

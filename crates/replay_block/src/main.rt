@@ -1,6 +1,8 @@
 // Replays the Rust's stored answers for the crates `dct` and `block`: blocks of 64 floats by their bits, four bytes each, the
 // high one first, and what the Rust makes of them; and where a block stands in the plane. Every NaN is written as one pattern.
 // Prints for each list how many were compared and how many differ.
+#![tactic(auto)]
+
 ghost use Rattle.std.specs.Prelude.{◌≤◌, ◌<◌, ◌≡◌, length};
 ghost use Rattle.replay_lists.specs.Fields.{InText};
 ghost use Rattle.dct.specs.Grid.{grid};

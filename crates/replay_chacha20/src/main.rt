@@ -1,5 +1,7 @@
 // Runs the vectors of RFC 8439 and the end of the keystream through `chacha20` and
 // `keystream`, and says of each whether the answer and the bytes are the ones expected.
+#![tactic(auto)]
+
 ghost use Rattle.std.specs.Prelude.{◌<◌};
 
 use keystream::Applied;

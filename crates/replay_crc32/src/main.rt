@@ -1,4 +1,6 @@
 // Compares crc32 with the answers of zlib in data/crc32.txt: each case is a message and its CRC-32.
+#![tactic(auto)]
+
 ghost use Rattle.replay_lists.specs.Fields.{InText};
 
 use replay_lists::Field;

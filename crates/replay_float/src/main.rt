@@ -1,5 +1,7 @@
 // Replays the Rust's stored answers for crate `float`: a list for each call, of one or two operands and results by their bits.
 // Every NaN is written as one pattern. Prints for each list how many were compared and how many differ.
+#![tactic(auto)]
+
 mod call;
 
 ghost use Rattle.std.specs.Prelude.{◌≤◌};

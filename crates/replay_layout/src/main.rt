@@ -3,6 +3,8 @@
 // Rust has no function for a single draw, so the answers for the draw on chosen values (accepted.txt) are the
 // oracle's: it computes them in oracle/judge/src/shuffles.rs by the formula that stands within the Rust's shuffle.
 // A case is two strings of bytes, the operand and the result, in which a number has its high byte first.
+#![tactic(auto)]
+
 ghost use Rattle.std.specs.Prelude.{◌+◌, ◌*◌, ◌≤◌, ◌≡◌, length};
 ghost use Rattle.replay_lists.specs.Fields.{InText};
 

@@ -1,6 +1,8 @@
 // Lists of stored cases, which the replay programs compare with: text in lines, where a line that begins with # says what the
 // list is and each other line is a case, of fields with a space between them. A field is a number or a string of bytes in
 // hexadecimal, or - for no bytes. A program loads its list whole, takes one field after the other, and reports what it counted.
+#![tactic(auto)]
+
 pub mod stored;
 
 ghost use Rattle.std.specs.Prelude.{◌+◌, ◌/◌, ◌≤◌, ◌<◌, min, ◌≡◌, length};

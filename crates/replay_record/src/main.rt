@@ -1,6 +1,8 @@
 // Replays the Rust's stored answers for the crates `record_build` and `record_parse`: data/build.txt has records built and
 // texts refused, data/parse.txt records read, damaged and refused. A case is six fields in both. Then texts too long for a
 // list are built.
+#![tactic(auto)]
+
 ghost use Rattle.std.specs.Prelude.{◌+◌, ◌≤◌, min, length};
 ghost use Rattle.replay_lists.specs.Fields.{InText};
 ghost use Rattle.replay_record.specs.Cases.{RecordCase};

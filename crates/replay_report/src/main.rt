@@ -1,5 +1,7 @@
 // The scope's lines for the program `votes`, and others: the line for each stored input, by the function that the
 // program calls.
+#![tactic(auto)]
+
 fn file(path: &[u8]) {
     let mut bytes = replay_lists::room();
     let count = replay_lists::load(path, &mut bytes);

@@ -4,6 +4,8 @@
 // A case is two strings of bytes, the operand and the result, in which a number has its high byte first; floats
 // stand by their bits, and whole numbers that have a sign as f64. Of a picture's samples a pattern is stored,
 // which is repeated as often as needed.
+#![tactic(auto)]
+
 ghost use Rattle.std.specs.Prelude.{◌≡◌, ◌+◌, ◌*◌, ◌^◌, ◌<◌, ◌≤◌, length};
 ghost use Rattle.replay_lists.specs.Fields.{InText};
 

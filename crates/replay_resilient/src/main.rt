@@ -3,6 +3,8 @@
 // which refusal is given where two apply; pictures of a few pixels and damaged ones, and votes under a key. All memory is
 // lent with something in it and looked at after each call: the samples by their CRC-32, the work area, which has room to
 // spare, place by place.
+#![tactic(auto)]
+
 ghost use Rattle.std.specs.Prelude.{◌≡◌, ◌+◌, ◌<◌, ◌≤◌, min, length};
 ghost use Rattle.replay_lists.specs.Fields.{InText};
 ghost use Rattle.replay_resilient.specs.Cases.{MarkCase};

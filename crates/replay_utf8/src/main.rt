@@ -1,5 +1,7 @@
 // Compares both checks of crate `utf8` with stored answers: rustc's for RFC 3629, and those of the scope's rule for the check on
 // writing. Prints for each list how many strings were compared and how many differ.
+#![tactic(auto)]
+
 ghost use Rattle.std.specs.Prelude.{◌≤◌};
 
 mod cases;

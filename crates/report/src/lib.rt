@@ -1,5 +1,7 @@
 // The line that the program `votes` answers its input with: the input as votes, read with no key, and the
 // answer in words. From the scope, section 20, which specs/Input.antt and specs/Line.antt state.
+#![tactic(auto)]
+
 mod put;
 
 ghost use Rattle.std.specs.Prelude.{◌≡◌, ◌≤◌, length};

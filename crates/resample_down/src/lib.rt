@@ -2,6 +2,8 @@
 // the picture, and the next plane row half of them again. Rows are made where they are read, four at a time, brought to
 // 256 values each, and 64 are kept as long as the windows that follow read them: row i in place i mod 64. So no picture
 // of floats is needed.
+#![tactic(auto)]
+
 ghost use Rattle.std.specs.Prelude.{◌≡◌, [], ◌+◌, ◌<◌, ◌≤◌, length, take, drop};
 ghost use Rattle.seq.specs.Lists.{tab};
 ghost use Rattle.resample_window.specs.Window.{taps_of, Small};

@@ -1,6 +1,8 @@
 // Four rows at once, for the crate `resample_down`. Their lumas stand side by side in a line, that of pixel x of row l in
 // place 4 x + l, so that one instruction serves four sums, each in its own order; and a luma is put together from
 // products that are made once for a picture.
+#![tactic(auto)]
+
 ghost use Rattle.std.specs.Prelude.{◌≡◌, ◌+◌, ◌*◌, ◌≤◌, ◌<◌, length, get_or, set};
 ghost use Rattle.std.specs.Float.{nan};
 ghost use Rattle.seq.specs.Lists.{tab, filled, lines};

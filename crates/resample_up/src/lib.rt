@@ -1,6 +1,8 @@
 // From a change of the 256 x 256 plane to a picture's samples, for the crate `carrier`. A row of the picture reads at
 // most two rows of the change, and the rows that follow the same two or the next: two rows, brought to the picture's
 // width, are kept, row k in place k mod 2.
+#![tactic(auto)]
+
 ghost use Rattle.std.specs.Prelude.{◌≡◌, [], ◌+◌, ◌*◌, ◌<◌, ◌≤◌, length, get_or, take, drop, pos};
 ghost use Rattle.std.specs.Float.{nan, binary32};
 ghost use Rattle.std.specs.Float.Ieee.{add, of_int};

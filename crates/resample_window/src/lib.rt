@@ -1,6 +1,8 @@
 // The triangle kernel (section 15 of the scope): which source numbers each output sample reads, and with what weights.
 // `Window`, `tent`, `weight` and `taps` are those of the Rust. Every promise is an equation over the definitions in
 // specs/Window.antt; what bounds a window, its taps and its weights is the crate `resample_window_laws`.
+#![tactic(auto)]
+
 ghost use Rattle.std.specs.Prelude.{◌≡◌, ◌+◌, ◌^◌, ◌<◌, ◌≤◌, length, pos, ◌+ℤ◌};
 ghost use Rattle.std.proofs.Math.Seq.{paste};
 ghost use Rattle.std.specs.Int.Signed.{mag};

@@ -1,5 +1,7 @@
 // The mark as a whole: a text written into a picture's samples, and read from them, with every refusal in its order. For
 // hosts. From the scope, sections 3, 4 and 18, which specs/Resilient.antt states.
+#![tactic(auto)]
+
 ghost use Rattle.std.specs.Prelude.{◌≡◌};
 ghost use Rattle.resilient.specs.Resilient.{written_of, reading_of};
 

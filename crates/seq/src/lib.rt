@@ -1,5 +1,7 @@
 // Slices and bytes: the small functions that several crates need. The laws on lists (tables, parts, rows, sums) stand in
 // specs/, once for every element type.
+#![tactic(auto)]
+
 ghost use Rattle.std.specs.Prelude.{◌≡◌, ◌+◌, ◌*◌, ◌^◌, ◌≤◌, length, replicate};
 ghost use Rattle.std.proofs.Math.Seq.{paste};
 ghost use Rattle.std.specs.Float.{binary32};

@@ -1,5 +1,7 @@
 // The keyed shuffle: the first entries of a permutation of 0, 1, .. len - 1 that a key's keystream chooses. The layout is
 // the shuffle of 1,024 with the layout's key. Everything is held to specs/Shuffle.antt.
+#![tactic(auto)]
+
 ghost use Rattle.std.specs.Prelude.{◌≡◌, ◌+◌, ◌^◌, ◌<◌, ◌≤◌, min, length, take, if◌then◌else◌, nat_le, nat_lt, slice_index};
 ghost use Rattle.seq.specs.Lists.{tab};
 ghost use Rattle.shuffle.specs.Shuffle.{value_at, limit, drawn, draws_from, swapped, made, stream_of, longest_shuffle, shuffle_of, lent_for};

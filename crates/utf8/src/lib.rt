@@ -1,5 +1,7 @@
 // Text as bytes. `well_formed` is UTF-8 by RFC 3629, which decides on reading. `counted` is the scope's check on
 // writing: it counts the bytes that follow a lead byte, and lets overlong forms, surrogates and numbers above 10FFFF pass.
+#![tactic(auto)]
+
 ghost use Rattle.std.specs.Prelude.{◌≡◌, ◌≤◌};
 ghost use Rattle.utf8.specs.Forms.{following};
 ghost use Rattle.utf8.specs.Rfc3629.{well_formed};

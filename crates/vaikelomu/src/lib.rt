@@ -1,6 +1,8 @@
 // The mark from C, for the archive and everyone who links the static library: writing a text into a picture, reading
 // it, and reading it from votes. Numbers and lent memory only; nothing is asked of the caller but that the memory is
 // there. `include/vaikelomu.h` says in words what is promised here.
+#![tactic(auto)]
+
 ghost use Rattle.std.specs.Prelude.{◌≡◌};
 ghost use Rattle.refusal.specs.Numbers.{code_of, given_for};
 ghost use Rattle.record.specs.Given.{lock_from, key_from};

@@ -1,5 +1,7 @@
 // Reads votes from standard input and prints the line that crate `report` answers them with: `text 5 68656c6c6f`, `text 0 -`,
 // or `refused 8 0`.
+#![tactic(auto)]
+
 use report::INPUT;
 
 fn main() {
