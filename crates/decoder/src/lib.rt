@@ -20,7 +20,7 @@ use outputs::{first_out, second_out};
 const STEPS: usize = CODED / 2;
 
 // A record, and the metric with which state 0 ended: what is left of the path that survived.
-#[derive(Drop)]
+#[derive(Clone, Copy)]
 pub struct Survivor {
     pub bytes: [u8; RECORD],
     pub metric: f32,
@@ -57,7 +57,7 @@ fn minus_infinity() -> f32
 }
 
 // The state in which the path ends, and its metric.
-#[derive(Drop)]
+#[derive(Clone, Copy)]
 struct Ended {
     state: usize,
     metric: f32,
@@ -92,7 +92,7 @@ fn end_of(metric: &[f32; 64]) -> Ended
 }
 
 // One step: the next metrics, and a bit for each state that says whether its odd predecessor won.
-#[derive(Drop)]
+#[derive(Clone, Copy)]
 struct Stepped {
     metric: [f32; 64],
     odd: u64,
@@ -117,7 +117,7 @@ fn advance(m: &[f32; 64], s0: f32, s1: f32) -> Stepped
 }
 
 // A state's winner: its metric, and 1 where the odd predecessor won.
-#[derive(Drop)]
+#[derive(Clone, Copy)]
 struct Winner {
     metric: f32,
     odd: u8,

@@ -15,7 +15,7 @@ use record::{Key, Reading};
 use refusal::{Answer, Refusal};
 
 // A record; zeros where the votes are refused.
-#[derive(Drop)]
+#[derive(Clone, Copy)]
 pub struct Decoded {
     pub bytes: [u8; RECORD],
     pub answer: Answer,

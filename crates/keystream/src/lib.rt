@@ -14,7 +14,7 @@ pub type Position = u64;
 const END: Position = 1 << 38;
 
 // The answer to a request for keystream: the position after it, or that the keystream ends too early.
-#[derive(Drop)]
+#[derive(Clone, Copy)]
 pub enum Applied {
     Next(Position),
     KeystreamEnd,

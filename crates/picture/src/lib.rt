@@ -13,7 +13,7 @@ pub const PLANE: usize = 65536;
 pub const BLOCKS: usize = 1024;
 
 // Sides in pixels, and the samples of a pixel: red, green, blue, and a fourth that is left alone.
-#[derive(Drop)]
+#[derive(Clone, Copy)]
 pub struct Picture {
     pub width: usize,
     pub height: usize,

@@ -34,7 +34,7 @@ pub const OUTER: usize = INNER + 4;
 pub const SIZE: usize = OUTER + 4;
 
 // What a text is written with: a key and the salt that goes into the record, if one is given.
-#[derive(Drop)]
+#[derive(Clone, Copy)]
 pub struct Lock {
     pub given: bool,
     pub key: [u8; 32],
@@ -42,14 +42,14 @@ pub struct Lock {
 }
 
 // What a record is read with.
-#[derive(Drop)]
+#[derive(Clone, Copy)]
 pub struct Key {
     pub given: bool,
     pub bytes: [u8; 32],
 }
 
 // A text, its length and zeros after it; length 0 and zeros where it is refused.
-#[derive(Drop)]
+#[derive(Clone, Copy)]
 pub struct Reading {
     pub text: [u8; ROOM],
     pub length: usize,

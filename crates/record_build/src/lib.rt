@@ -10,7 +10,7 @@ use record::{INNER, KEYED, LENGTH, Lock, OUTER, PLAIN, ROOM, SIZE, TEXT, cover, 
 use refusal::{Answer, Refusal};
 
 // A record; zeros where it is refused.
-#[derive(Drop)]
+#[derive(Clone, Copy)]
 pub struct Built {
     pub bytes: [u8; SIZE],
     pub answer: Answer,

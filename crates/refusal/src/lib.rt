@@ -5,7 +5,7 @@
 ghost use Rattle.std.specs.Prelude.{◌≡◌};
 ghost use Rattle.refusal.specs.Numbers.{number_of, given_of, code_of, given_for, first};
 
-#[derive(Drop)]
+#[derive(Clone, Copy)]
 pub enum Refusal {
     // The text's length, over 32 bytes.
     TextTooLong(usize),
@@ -80,7 +80,7 @@ pub fn given(r: Refusal) -> u64
 }
 
 // Done, or the reason why not.
-#[derive(Drop)]
+#[derive(Clone, Copy)]
 pub enum Answer {
     Done,
     Refused(Refusal),

@@ -11,7 +11,7 @@ ghost use Rattle.dct.specs.Matrix.{dct_entry, dct_turned};
 use replay_lists::Field;
 use replay_lists::stored::{f32_of, pair, same, word};
 
-#[derive(Drop)]
+#[derive(Clone, Copy)]
 enum Stage {
     Forward,
     Inverse,

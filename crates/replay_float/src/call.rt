@@ -1,7 +1,7 @@
 // The calls of crate `float`, over the bits of their operands and their result.
 use replay_lists::stored::{bits_of_f32, bits_of_f64, f32_of, f64_of};
 
-#[derive(Drop)]
+#[derive(Clone, Copy)]
 pub enum Call {
     RoundF32,
     FloorF32,

@@ -13,7 +13,7 @@ use picture::BLOCKS;
 use replay_lists::Field;
 use replay_lists::stored::{f32_of, number, pair, word};
 
-#[derive(Drop)]
+#[derive(Clone, Copy)]
 enum Stage {
     Layout,
     Dither,

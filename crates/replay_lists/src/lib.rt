@@ -10,21 +10,21 @@ ghost use Rattle.io.specs.Counts.{IsPrefixLen};
 ghost use Rattle.replay_lists.specs.Fields.{InText};
 
 // The bytes of a text from `start` up to, not including, `end`. An empty one at the text's end says that none was left.
-#[derive(Drop)]
+#[derive(Clone, Copy)]
 pub struct Field {
     pub start: usize,
     pub end: usize,
 }
 
 // What a field gave as bytes: whether it is well formed, and how many bytes it has.
-#[derive(Drop)]
+#[derive(Clone, Copy)]
 pub struct Decoded {
     pub good: bool,
     pub count: usize,
 }
 
 // What a field gave as a number: whether it is one, and which.
-#[derive(Drop)]
+#[derive(Clone, Copy)]
 pub struct Number {
     pub good: bool,
     pub value: u64,

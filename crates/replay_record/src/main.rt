@@ -12,7 +12,7 @@ use refusal::Answer;
 use replay_lists::Field;
 
 // The fields of a case, in their order.
-#[derive(Drop)]
+#[derive(Clone, Copy)]
 struct Case {
     a: Field,
     b: Field,
@@ -52,7 +52,7 @@ fn told(text: &[u8], answer: Answer, number: Field, given: Field) -> bool
 }
 
 // What a field gave as a key: whether it is one or none, and which.
-#[derive(Drop)]
+#[derive(Clone, Copy)]
 struct Stored {
     good: bool,
     given: bool,

@@ -16,7 +16,7 @@ use replay_lists::stored::{
 use resample_window::{Weight, Window};
 use std::num::nearest_i64_to_f64;
 
-#[derive(Drop)]
+#[derive(Clone, Copy)]
 enum Stage {
     Window,
     Weight,

@@ -24,7 +24,7 @@ const THREE: usize = 786432;
 const WORK: usize = 655360 + 64;
 
 // How many were compared, and how many of them differ.
-#[derive(Drop)]
+#[derive(Clone, Copy)]
 struct Tally {
     compared: u64,
     different: u64,
@@ -109,7 +109,7 @@ fn is_left(work: &[f32], as_lent: bool) -> bool
 }
 
 // The fields of an answer: the refusal's number and the number given.
-#[derive(Drop)]
+#[derive(Clone, Copy)]
 struct Told {
     number: Field,
     given: Field,
@@ -117,7 +117,7 @@ struct Told {
 
 // The fields of a case, in their order: a text written with key and salt, what was said, the samples' CRC-32 after it; the
 // key to read with, what was said.
-#[derive(Drop)]
+#[derive(Clone, Copy)]
 struct Case {
     channels: Field,
     text: Field,

@@ -24,7 +24,7 @@ pub const INPUT: usize = BYTES + 1;
 const ROOM: usize = 73;
 
 // A line with its end, and zeros behind it.
-#[derive(Drop)]
+#[derive(Clone, Copy)]
 pub struct Line {
     pub bytes: [u8; ROOM],
     pub length: usize,

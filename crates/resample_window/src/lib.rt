@@ -14,7 +14,7 @@ use std::num::nearest_i64_to_f64;
 
 // The source numbers that one output sample reads run from `first` to `last`; `sum` is the sum of their positive
 // tents.
-#[derive(Drop)]
+#[derive(Clone, Copy)]
 pub struct Window {
     pub first: i64,
     pub last: i64,
@@ -24,7 +24,7 @@ pub struct Window {
 }
 
 // The weight of a source number, if the kernel reaches it.
-#[derive(Drop)]
+#[derive(Clone, Copy)]
 pub enum Weight {
     Of(f32),
     Nothing,

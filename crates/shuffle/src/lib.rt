@@ -12,7 +12,7 @@ use keystream::{Applied, Position};
 const LONGEST: usize = 4096;
 
 // What drawing finds: a number below the range and the position after the bytes drawn, or that the keystream ends.
-#[derive(Drop)]
+#[derive(Clone, Copy)]
 enum Drawn {
     Found(u64, Position),
     End,

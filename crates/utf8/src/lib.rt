@@ -9,14 +9,14 @@ ghost use Rattle.utf8.specs.Counted.{counted};
 ghost use Rattle.utf8.specs.Reading.{forms_of, taken, due_of};
 
 // Both grammars tell a character's form by its first byte, so that one reading serves both.
-#[derive(Drop)]
+#[derive(Clone, Copy)]
 enum Grammar {
     Rfc3629,
     Counting,
 }
 
 // What has to follow: so many bytes, the first of them from a lowest to a highest, and the others from 80 to BF.
-#[derive(Drop)]
+#[derive(Clone, Copy)]
 struct Due(u8, u8, u8);
 
 // What follows a first byte above 7F by RFC 3629, section 4. After one that starts no character a byte from 1 to 0 is

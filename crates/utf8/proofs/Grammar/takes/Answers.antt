@@ -1,4 +1,5 @@
 -- What is due and the bytes from i on decide as the whole text does; the measure is what is left of it.
+-- ---- one byte, and none
 use borrow.Author.Rules.{rules}
 use borrow.Author.Tests.{ne_eqb}
 use mathlib.Core.Path.{◌≡◌, refl, sym, ◌∙◌}
@@ -19,10 +20,7 @@ use Rattle.utf8.specs.declared.Grammar.{Grammar}
 use Rattle.utf8.specs.declared.Grammar.TheVariants.{Rfc3629, Counting}
 use Rattle.utf8.specs.Reading.{forms_of, taken, due, due_of}
 use Rattle.utf8.proofs.Reaches.{reaches}
-use Rattle.utf8.proofs.Grammar.takes.Statement.{statement}
-use Rattle.utf8.proofs.Grammar.takes.Tie as tie
-
--- ---- one byte, and none
+use Rattle.utf8.proofs.Grammar.takes.Goals as goal
 
 module _ (fs : List Form) (b : ℕ) (rest : List ℕ) where
   leads : (left low high : ℕ) (next : List Range) → left ≡ 0 → next ≡ following fs b → accepts fs next rest ≡ accepts fs (due left low high) (b ∷ rest)
@@ -58,54 +56,43 @@ alone Rfc3629 zero low high b z h = reaches (forms UTF8-char) 0 b (omega arith)
 alone Counting zero low high b z h = reaches (forms counted_char) 0 b (omega arith)
 alone g (suc n) low high b z h = absurd (omega arith)
 
-abbrev invariant-loop : tie.invariant-loop
-invariant-loop self bytes due₀ i₀ i-end d i = (i-end ≡ length bytes) × (i ≤ i-end) × (accepts (forms_of self) (due_of d) (drop i bytes) ≡ taken self bytes)
-
-abbrev decreases-loop : tie.decreases-loop
-decreases-loop self bytes due₀ i₀ i-end d i = i-end - i
-
-loop-holds : tie.Need-loop-init invariant-loop decreases-loop
-unfolding due
-loop-holds c = (search rules, search rules, taken_is c.before.args.self c.before.args.bytes.now)
-
 -- the invariant where byte i has been read
-read : (c : tie.After-shared-slice-known2 invariant-loop decreases-loop) →
-    let start = c.before.before.before.before.args in
-    let loop = c.before.before.loop in
+read : (c : goal.After-shared_slice_known-in-loop-i-1) →
+    let start = c.args in
+    let loop = c.loop-i in
     accepts (forms_of start.self) (due_of loop.due) (get_or start.bytes.now loop.i 0 ∷ drop (loop.i + 1) start.bytes.now)
     ≡ taken start.self start.bytes.now
 read c =
-    let h : c.before.before.loop.i < length c.before.before.before.before.args.bytes.now = omega arith in
-    rw (add-one, ← drop-cons c.before.before.before.before.args.bytes.now c.before.before.loop.i 0 h) c.before.before.loop.invariant.2
+    let h : c.loop-i.i < length c.args.bytes.now = omega arith in
+    rw (add-one, ← drop-cons c.args.bytes.now c.loop-i.i 0 h) c.loop-i.invariant.2
 
-returns : tie.Need-returns invariant-loop decreases-loop
-returns c = sym (stops _ _ _ _ _ _ c.before.if1.false (omega arith)) ∙ read c.before.before
+pub loop-i-init : goal.loop-i-init
+unfolding due
+loop-i-init c = (search rules, search rules, taken_is c.args.self c.args.bytes.now)
 
-returns-2 : tie.Need-returns-2 invariant-loop decreases-loop
-returns-2 c = sym (stops _ _ _ _ _ _ c.before.before.if1.false (omega arith)) ∙ read c.before.before.before
+pub returns-then-b-low : goal.returns-then-b-low
+returns-then-b-low c = sym (stops _ _ _ _ _ _ c.if-left-eq0.false (omega arith)) ∙ read c
 
-loop-again : tie.Need-loop-preserved invariant-loop decreases-loop
-loop-again c =
-    let self = c.before.before.before.before.before.args.self in
-    let d = c.before.before.before.loop.due in (
+pub returns-then-high-b : goal.returns-then-high-b
+returns-then-high-b c = sym (stops _ _ _ _ _ _ c.if-left-eq0.false (omega arith)) ∙ read c
+
+pub loop-i-preserved : goal.loop-i-preserved
+loop-i-preserved c =
+    let self = c.args.self in
+    let d = c.loop-i.due in (
       search rules,
       search rules,
       ⊎_elim
-          (λ w. rw w.3 (leads _ _ _ _ _ _ _ w.0.taken w.2.ensures ∙ read c.before))
+          (λ w. rw w.3 (leads _ _ _ _ _ _ _ w.0.true w.2.ensures ∙ read c))
           (⊎_elim
-          (λ w. rw w.2 (leads _ _ _ _ d.1 d.2 _ w.0.taken (alone self _ d.1 d.2 _ w.0.taken w.1.left) ∙ read c.before))
-          (λ w. rw w.3 (follows _ _ _ _ _ _ w.0.left w.1.left w.2.left ∙ read c.before)))
-          c.if1.branch,
+          (λ w. rw w.2 (leads _ _ _ _ d.1 d.2 _ w.0.true (alone self _ d.1 d.2 _ w.0.true w.1.false) ∙ read c))
+          (λ w. rw w.3 (follows _ _ _ _ _ _ w.0.false w.1.false w.2.false ∙ read c)))
+          c.if-left-eq0.branch,
     )
 
-returns-3 : tie.Need-returns-3 invariant-loop decreases-loop
-returns-3 c =
-    let bytes = c.before.before.before.before.args.bytes.now in
-    let e : c.before.before.loop.i ≡ length bytes = omega arith in
-    ends _ _ _ _ ∙ (rw (e, drop-length bytes) at c.before.before.loop.invariant.2)
+pub returns : goal.returns
+returns c =
+    let bytes = c.args.bytes.now in
+    let e : c.loop-i.i ≡ length bytes = omega arith in
+    ends _ _ _ _ ∙ (rw (e, drop-length bytes) at c.loop-i.invariant.2)
 
-pub takes-spec : {M : Type 1} → statement M
-takes-spec =
-    tie.close
-    (tie.spec invariant-loop decreases-loop loop-holds (λ c. search rules) (λ c κs. search rules) returns returns-2 (λ c. search rules)
-    (λ c. search rules) (λ c. search rules) loop-again returns-3)
