@@ -77,11 +77,13 @@ fits-parts [] {qs} {bs} d = ([], bs, done, d, refl)
 fits-parts (r ∷ rs) (next {b} h d) = let k = fits-parts rs d in (b ∷ k.0, k.1, next h k.2, k.3, ap (λ (x : List ℕ). b ∷ x) k.4)
 
 join-parts : (f : Form) (gs : List Form) {bs : List ℕ} → Some (map (join f) gs) bs → Parts (Fits (ranges f)) (Some gs) bs
+join-parts f [] {bs = bs} x' = elim x' [ ]
 join-parts f (g ∷ gs) (here d) = let k = fits-parts (ranges f) d in (k.0, k.1, k.2, here k.3, k.4)
 join-parts f (g ∷ gs) (there d) = let k = join-parts f gs d in (k.0, k.1, k.2, there k.3, k.4)
 
 pairs-parts : (fs gs : List Form) {bs : List ℕ} → Some (flat_map (λ f. map (join f) gs) fs) bs → Parts (Some fs) (Some gs) bs
 unfolding flat_map
+pairs-parts [] gs {bs = bs} d = elim d [ ]
 pairs-parts (f ∷ fs) gs {bs} d =
     ⊎_elim {C = Parts (Some (f ∷ fs)) (Some gs) bs}
     (λ e. let k = join-parts f gs e in (k.0, k.1, here k.2, k.3, k.4))
@@ -103,6 +105,7 @@ of-form (% a - z) (here d) = one d
   where
     one : {bs : List ℕ} → Fits ((a ‥ z) ∷ []) bs → Of (% a - z) bs
     one (next {b} h done) = let k = lies-from (a ‥ z) b h in byte k.0 k.1
+of-form (% a - z) {bs = bs} (there x5) = elim x5 [ ]
 of-form (p · q) d =
     let k = pairs-parts (forms p) (forms q) d in
     subst (λ (x : List ℕ). Of (p · q) x) k.4 (joined (of-form p k.2) (of-form q k.3))

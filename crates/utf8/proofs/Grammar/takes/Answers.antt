@@ -4,7 +4,6 @@ use borrow.Author.Rules.{rules}
 use borrow.Author.Tests.{ne_eqb}
 use mathlib.Core.Path.{◌≡◌, refl, sym, ◌∙◌}
 use mathlib.Core.Bool.{false}
-use mathlib.Core.Logic.{⊎_elim}
 use mathlib.Core.List.{List, [], ◌∷◌}
 use Prim.Native.Nat.{ℕ, zero, suc, ◌+◌, ◌-◌, ◌≤◌, ◌<◌}
 use native.Mathlib.Numerals.{add-one, sub-one}
@@ -18,9 +17,10 @@ use Rattle.utf8.specs.Rfc3629.{UTF8-char, well_formed}
 use Rattle.utf8.specs.Counted.{counted_char, counted}
 use Rattle.utf8.specs.declared.Grammar.{Grammar}
 use Rattle.utf8.specs.declared.Grammar.TheVariants.{Rfc3629, Counting}
-use Rattle.utf8.specs.Reading.{forms_of, taken, due, due_of}
+use Rattle.utf8.specs.Reading.{forms_of, taken, due}
 use Rattle.utf8.proofs.Reaches.{reaches}
 use Rattle.utf8.proofs.Grammar.takes.Goals as goal
+use Rattle.utf8.proofs.Grammar.takes.Goals.{then-left-eq0+then-b-gt127, then-left-eq0+else-b-gt127, else-left-eq0+else-b-low+else-high-b}
 
 module _ (fs : List Form) (b : ℕ) (rest : List ℕ) where
   leads : (left low high : ℕ) (next : List Range) → left ≡ 0 → next ≡ following fs b → accepts fs next rest ≡ accepts fs (due left low high) (b ∷ rest)
@@ -57,37 +57,32 @@ alone Counting zero low high b z h = reaches (forms counted_char) 0 b (omega ari
 alone g (suc n) low high b z h = absurd (omega arith)
 
 -- the invariant where byte i has been read
-read : (c : goal.After-shared_slice_known-in-loop-i-1) →
-    let start = c.args in
-    let loop = c.loop-i in
-    accepts (forms_of start.self) (due_of loop.due) (get_or start.bytes.now loop.i 0 ∷ drop (loop.i + 1) start.bytes.now)
-    ≡ taken start.self start.bytes.now
-read c =
-    let h : c.loop-i.i < length c.args.bytes.now = omega arith in
-    rw (add-one, ← drop-cons c.args.bytes.now c.loop-i.i 0 h) c.loop-i.invariant.2
+read : (g : Grammar) (bs : List ℕ) (i left low high : ℕ) → i < length bs → accepts (forms_of g) (due left low high) (drop i bs) ≡ taken g bs
+    → accepts (forms_of g) (due left low high) (get_or bs i 0 ∷ drop (i + 1) bs) ≡ taken g bs
+read g bs i left low high h e = rw (add-one, ← drop-cons bs i 0 h) e
 
 pub loop-i-init : goal.loop-i-init
 unfolding due
 loop-i-init c = (search rules, search rules, taken_is c.args.self c.args.bytes.now)
 
 pub returns-then-b-low : goal.returns-then-b-low
-returns-then-b-low c = sym (stops _ _ _ _ _ _ c.if-left-eq0.false (omega arith)) ∙ read c
+returns-then-b-low c = sym (stops _ _ _ _ _ _ c.if-left-eq0.false (omega arith)) ∙ read _ _ _ _ _ _ c.loop-i-test.true c.loop-i.invariant.2
 
 pub returns-then-high-b : goal.returns-then-high-b
-returns-then-high-b c = sym (stops _ _ _ _ _ _ c.if-left-eq0.false (omega arith)) ∙ read c
+returns-then-high-b c = sym (stops _ _ _ _ _ _ c.if-left-eq0.false (omega arith)) ∙ read _ _ _ _ _ _ c.loop-i-test.true c.loop-i.invariant.2
 
 pub loop-i-preserved : goal.loop-i-preserved
 loop-i-preserved c =
     let self = c.args.self in
-    let d = c.loop-i.due in (
+    let d = c.loop-i.due in
+    let here = read _ _ _ _ _ _ c.loop-i-test.true c.loop-i.invariant.2 in (
       search rules,
       search rules,
-      ⊎_elim
-          (λ w. rw w.3 (leads _ _ _ _ _ _ _ w.0.true w.2.ensures ∙ read c))
-          (⊎_elim
-          (λ w. rw w.2 (leads _ _ _ _ d.1 d.2 _ w.0.true (alone self _ d.1 d.2 _ w.0.true w.1.false) ∙ read c))
-          (λ w. rw w.3 (follows _ _ _ _ _ _ w.0.false w.1.false w.2.false ∙ read c)))
-          c.if-left-eq0.branch,
+      elim c.if-left-eq0.branch [
+        | then-left-eq0+then-b-gt127 w ↦ rw w.due-is (leads _ _ _ _ _ _ _ w.if-left-eq0.true w.after-due.ensures ∙ here)
+        | then-left-eq0+else-b-gt127 w ↦ rw w.due-is (leads _ _ _ _ _ _ _ w.if-left-eq0.true (alone self _ d.1 d.2 _ w.if-left-eq0.true w.if-b-gt127.false) ∙ here)
+        | else-left-eq0+else-b-low+else-high-b w ↦ rw w.due-is (follows _ _ _ _ _ _ w.if-left-eq0.false w.if-b-low.false w.if-high-b.false ∙ here)
+      ],
     )
 
 pub returns : goal.returns
@@ -95,4 +90,3 @@ returns c =
     let bytes = c.args.bytes.now in
     let e : c.loop-i.i ≡ length bytes = omega arith in
     ends _ _ _ _ ∙ (rw (e, drop-length bytes) at c.loop-i.invariant.2)
-
