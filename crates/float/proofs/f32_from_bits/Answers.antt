@@ -3,8 +3,7 @@ use Rattle.std.proofs.Common.{◌≡◌, true, sym, refl, ◌∙◌, le-ltb, lt-
 use lib.Ieee.{Float, nan, inf, fin, binary32, div, is_nan, of_bits}
 use lib.Ieee.Bits.{nan_bits_is, nan_bits_above}
 use Rattle.float.specs.Known.{known-not}
-use Rattle.float.proofs.f32_from_bits.Statement.{statement}
-use Rattle.float.proofs.f32_from_bits.Tie as tie
+use Rattle.float.proofs.f32_from_bits.Goals as goal
 
 is-nan : (x : Float) → is_nan x ≡ true → x ≡ nan
 unfolding is_nan
@@ -16,16 +15,10 @@ no-quotient : div binary32 (of_bits binary32 0) (of_bits binary32 0) ≡ nan
 unfolding div of_bits
 no-quotient = refl
 
-returns : tie.Need-returns
-returns c = no-quotient
-    ∙ sym (is-nan (of_bits binary32 c.before.args.bits)
-    (sym (nan_bits_is binary32 c.before.args.bits) ∙ nan_bits_above binary32 c.before.args.bits ∙ lt-ltb _ _ c.if1.true))
+pub returns-then-size-gt2139095040 : goal.returns-then-size-gt2139095040
+returns-then-size-gt2139095040 c = no-quotient
+    ∙ sym (is-nan (of_bits binary32 c.args.bits)
+    (sym (nan_bits_is binary32 c.args.bits) ∙ nan_bits_above binary32 c.args.bits ∙ lt-ltb _ _ c.if-size-gt2139095040.true))
 
-float-from-bits-result : tie.Need-float-from-bits-result
-float-from-bits-result c = known-not (nan_bits_above binary32 c.before.args.bits ∙ le-ltb _ _ c.if1.false)
-
-returns-2 : tie.Need-returns-2
-returns-2 c = refl
-
-pub f32-from-bits-spec : {M : Type 1} → statement M
-f32-from-bits-spec = tie.close (tie.spec returns float-from-bits-result returns-2)
+pub float_from_bits-result : goal.float_from_bits-result
+float_from_bits-result c = known-not (nan_bits_above binary32 c.args.bits ∙ le-ltb _ _ c.if-size-gt2139095040.false)
