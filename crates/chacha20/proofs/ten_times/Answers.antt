@@ -1,4 +1,4 @@
--- After n turns the state is that of n inner blocks; the measure is what is left of ten.
+-- After n turns the state is that of n inner blocks.
 use Rattle.std.proofs.Common.{add-one, rules}
 use Rattle.chacha20.specs.Rfc8439.{rounds}
 use Rattle.chacha20.proofs.ten_times.Goals as goal
