@@ -38,7 +38,7 @@ module _ (g : List Bool) (n : ℕ) where
       let z = m ++ replicate n false in
       let c = plus_bit b (leading_bit s) in
       let step : tail ((b ∷ z) ⊕ s ⊕ scaled (leading_bit ((b ∷ z) ⊕ s)) (true ∷ g)) ≡ z ⊕ (tail s ⊕ scaled c g) =
-      rw (front b z s) (sum-assoc z (tail s) (scaled c g)) in
+      ap (λ (t : List Bool). tail (t ⊕ scaled (leading_bit t) (true ∷ g))) (front b z s) ∙ sum-assoc z (tail s) (scaled c g) in
       let fed : number (c ∷ tail s) ≡ bit_xor (cond b 1 0) (number s) =
       ap number (sym (front b [] s)) ∙ number-sum (b ∷ []) s ∙ ap (λ (x : ℕ). bit_xor x (number s)) (zero-add (cond b 1 0)) in
       ap (λ (p : List Bool). number (remainder (length m) (true ∷ g) p)) step
