@@ -1,5 +1,5 @@
 -- 1 - 4 min(r, 1 - r), with r = x - floor x, lies from -1 to 1 at every finite x, and so does the mean of four values that do:
--- a block's vote. Generic over the format.
+-- a block's vote (proofs/Vote.antt). Generic over the format.
 use Rattle.std.specs.Prelude.{◌≡◌, refl, ◌⊎◌, Bool, true, false, not, ◌&&◌, cond, ℕ, ◌+◌, ◌-◌, ◌*◌, ◌/◌, ◌^◌, ◌≤◌, ◌<◌, ℤ, T, ltb, leb, Float}
 use Rattle.std.proofs.Common.{sym, ap, ◌∙◌, subst, inl, inr, true≢false, arith, ltb→lt, nltb→le, leb→le, lit≤}
 use native.Mathlib.Nat.{le_refl, le_of_lt, le_trans, le_of_eq, zero-lt-suc, mul-one, one-mul, mul_right_comm, mul-le-mul_right}

@@ -1,4 +1,4 @@
--- `float::abs_f64` meets its contract, by `specs/Range.antt`.
+-- `float::abs_f64` meets its contract, by `specs/Absolute.antt`.
 use lib.Ieee.{binary64, of_bits}
 use Rattle.float.specs.Known.{known, known-not}
 use Rattle.float.specs.Absolute.{absolute-above, absolute-below, absolute-rest}

@@ -1,5 +1,6 @@
 -- `float::narrow_in_range` meets its contract, by `narrowed` of `specs/Narrow.antt`.
-use Rattle.std.proofs.Common.{◌≡◌, ℕ, ◌+◌, ◌*◌, ◌%◌, ◌^◌, ◌<◌, ◌≤◌, Bool, true, false, not, ◌&&◌, T, sym, refl, ap, ◌∙◌, subst, mod-eq_of_lt, arith}
+use Rattle.std.proofs.Common.{◌≡◌, ℕ, ◌+◌, ◌*◌, ◌%◌, ◌^◌, ◌<◌, ◌≤◌, Bool, true, false, not, ◌&&◌, T, sym, refl, ap, ◌∙◌, subst, mod-eq_of_lt, arith, max, lit≤}
+use Rattle.std.proofs.lemmas.Float.{not_nan_f64_bits}
 use lib.Ieee.{Float, inf, binary32, binary64, add, sub, lt, fits, is_nan, of_bits, nan_bits}
 use Rattle.float.specs.Base.{two_to}
 use Rattle.float.specs.Known.{known}
@@ -27,11 +28,22 @@ test : (x : Float) (e : ℕ) (t : Bool) → e ≤ 1150 → lt (y_of x ((e + 29) 
 test x e t h p = ap (λ (b : ℕ). lt (y_of x b) (two_to 128)) (sym (whole-shift e h))
     ∙ ap (λ (z : Float). lt (y_of x ((e + 29) * 2 ^ 52 % 2 ^ 64)) z) (sym top-is) ∙ p
 
+-- the exponent's field is small, and so is what `at_least` gives of it, whatever the least is
+small-field : (field least e : ℕ) → e ≡ max field least → least ≤ 1150 → max field 897 ≤ 1150 → e ≤ 1150
+small-field field least e h l k = omega arith
+
+no-nan : (n : ℕ) → n ≤ 2046 → T (not (nan_bits binary64 (n * 2 ^ 52 % 2 ^ 64)))
+no-nan n h = not_nan_f64_bits (n * 2 ^ 52 % 2 ^ 64) (omega arith)
+
 pub overflow_add-m : goal.overflow_add-m
-overflow_add-m c = let h = (narrowed c.args.x c.at_least-e.result (known c.well_formed.0.1) c.requires.0 c.requires.1 c.at_least-e.ensures).e_small in record { fits = omega arith }
+overflow_add-m c =
+    let h = small-field _ _ _ c.at_least-e.ensures (lit≤ tt) (narrowed c.args.x _ (known c.well_formed.0.1) c.requires.0 c.requires.1 refl).e_small in
+    record { fits = omega arith }
 
 pub float_from_bits-m : goal.float_from_bits-m
-float_from_bits-m c = subst (λ (b : ℕ). T (not (nan_bits binary64 b))) (sym (whole-shift c.at_least-e.result (narrowed c.args.x c.at_least-e.result (known c.well_formed.0.1) c.requires.0 c.requires.1 c.at_least-e.ensures).e_small)) (narrowed c.args.x c.at_least-e.result (known c.well_formed.0.1) c.requires.0 c.requires.1 c.at_least-e.ensures).no_nan
+float_from_bits-m c =
+    let h = small-field _ _ _ c.at_least-e.ensures (lit≤ tt) (narrowed c.args.x _ (known c.well_formed.0.1) c.requires.0 c.requires.1 refl).e_small in
+    no-nan _ (omega arith)
 
 pub float_to_float-result : goal.float_to_float-result
 float_to_float-result c =

@@ -1,4 +1,4 @@
--- `float::saturating_f64_to_i64` meets its contract: beyond each end and at a NaN by `specs/Saturate.antt`, in range by what std's function ensures.
+-- `float::saturating_f64_to_i64` meets its contract: beyond each end and at a NaN by `specs/Integer.antt`, in range by what std's function ensures.
 use Rattle.std.proofs.Common.{sym}
 use lib.Ieee.{of_bits, neg}
 use Rattle.float.specs.Known.{known, known-not}
