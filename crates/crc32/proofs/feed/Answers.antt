@@ -5,7 +5,8 @@ use Prim.Native.Nat.{◌<◌}
 use native.Mathlib.Omega.{arith}
 use lib.Bits.{bit_xor}
 use lib.ListN.{get_or}
-use Rattle.crc32.specs.Bytes.{after_none, register-more}
+use Rattle.crc32.specs.Bytes.{after_none}
+use Rattle.crc32.proofs.Definition.{register-more}
 use Rattle.crc32.proofs.feed.Goals as goal
 
 pub loop-i-preserved : goal.loop-i-preserved
