@@ -1,5 +1,4 @@
 -- What is lent is the part that the definition names.
-use borrow.Author.Rules.{rules}
 use Rattle.seq.specs.Lists.{on_part}
 use Rattle.record.specs.Record.{covered}
 use Rattle.record.proofs.cover.Goals as goal

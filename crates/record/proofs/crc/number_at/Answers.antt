@@ -1,5 +1,4 @@
 -- What `from_big_endian` ensures of the four bytes is the definition.
-use borrow.Author.Rules.{rules}
 use Rattle.seq.specs.Bytes.{number_at}
 use Rattle.record.proofs.crc.number_at.Goals as goal
 
