@@ -34,6 +34,7 @@ fn missing(bytes: &[u8; SIZE], given: bool) -> bool
 
 // The text that a record holds, read with a key or with none. The salt of a plain record counts for the
 // CRCs only.
+#[tactic(auto, unfolding(record::specs::Record::parsed_of))]
 pub fn parse_record(bytes: &[u8; SIZE], key: Key) -> Reading
     ensures { result ≡ read_as (parsed_of short bytes.now key) }
 {
