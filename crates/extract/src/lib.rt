@@ -70,6 +70,7 @@ fn not_decoded(r: Refusal) -> Decoded
 
 // The record that the blocks' votes decode to. Refused: another number of votes than blocks, and a vote that is not a
 // number from -1 to 1.
+#[tactic(auto, unfolding(crate::specs::Extract::record_reading, crate::specs::Extract::record_outcome))]
 pub fn record_of(votes: &[f32]) -> Decoded
     ensures { result ≡ record_reading votes.now }
 {
