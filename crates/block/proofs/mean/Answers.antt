@@ -3,12 +3,8 @@ use mathlib.Core.Path.{refl}
 use lib.Ieee.{neg, of_bits}
 use Rattle.seq.specs.Lists.{sum_to}
 use Rattle.block.specs.Soft.{mean_of_four}
-use Rattle.block.proofs.mean.Statement.{statement}
-use Rattle.block.proofs.mean.Tie as tie
+use Rattle.block.proofs.mean.Goals as goal
 
-returns : tie.Need-returns
+pub returns : goal.returns
 unfolding mean_of_four sum_to neg of_bits
 returns c = refl
-
-pub mean-spec : {M : Type 1} → statement M
-mean-spec = tie.close (tie.spec returns)
