@@ -9,6 +9,7 @@ ghost use Rattle.picture.specs.Sizes.{longest_side};
 use picture::{LONGEST, PLANE, Picture, SHORTEST_TO_WRITE};
 use refusal::{Answer, Refusal};
 
+#[tactic(auto, unfolding(crate::specs::Admission::shorter))]
 fn shorter(p: Picture) -> usize
     ensures { result ≡ shorter p }
 {
@@ -19,6 +20,7 @@ fn shorter(p: Picture) -> usize
     }
 }
 
+#[tactic(auto, unfolding(crate::specs::Admission::longer))]
 fn longer(p: Picture) -> usize
     ensures { result ≡ longer p }
 {
@@ -44,6 +46,7 @@ fn pixels(p: Picture) -> usize
 }
 
 // Whether a picture with so many samples and so much work area can be used, `parts` times its room being needed.
+#[tactic(auto, unfolding(crate::specs::Admission::admission, crate::specs::Admission::room_of))]
 fn admit(parts: usize, p: Picture, samples: usize, work: usize) -> Answer
     requires { parts ≤ 2 }
     ensures { result ≡ admission parts p samples work }
@@ -69,6 +72,7 @@ fn admit(parts: usize, p: Picture, samples: usize, work: usize) -> Answer
 }
 
 // Whether a text can be written into a picture with so many samples, with so much work area.
+#[tactic(auto, unfolding(crate::specs::Admission::write_admission))]
 pub fn may_write(p: Picture, samples: usize, work: usize) -> Answer
     ensures { result ≡ write_admission p samples work }
 {
@@ -80,6 +84,7 @@ pub fn may_write(p: Picture, samples: usize, work: usize) -> Answer
 }
 
 // Whether a text can be read from it.
+#[tactic(auto, unfolding(crate::specs::Admission::read_admission))]
 pub fn may_read(p: Picture, samples: usize, work: usize) -> Answer
     ensures { result ≡ read_admission p samples work }
 {
