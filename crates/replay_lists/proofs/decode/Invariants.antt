@@ -1,5 +1,4 @@
 -- No byte is written past the room, whose length stays. The measure is the number of pairs left.
-use borrow.Author.Rules.{rules}
 use mathlib.Core.Path.{◌≡◌}
 use Prim.Native.Nat.{◌*◌, ◌-◌, ◌≤◌}
 use lib.ListN.{length}

@@ -1,5 +1,4 @@
 -- The place stays between its start and the text's end. The measure is what is left of the text.
-use borrow.Author.Rules.{rules}
 use Prim.Native.Nat.{◌-◌, ◌≤◌}
 use lib.ListN.{length}
 use Rattle.replay_lists.proofs.field_start.Given as goal

@@ -1,5 +1,4 @@
 -- The place stays within the field. The measure is what is left of the field.
-use borrow.Author.Rules.{rules}
 use Prim.Native.Nat.{◌-◌, ◌≤◌}
 use lib.ListN.{length}
 use Rattle.replay_lists.proofs.hex_number.Given as goal
