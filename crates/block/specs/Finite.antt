@@ -16,7 +16,7 @@ use Rattle.float_laws.specs.Values.{Within, Holds}
 use Rattle.float_laws.specs.Bounds.{holds-whole, within_more, within-finite, add-within, sub_within, mul-within, div-within, round_away-within, sum-to-within}
 use Rattle.float_laws.specs.Shifted.{Room, holds-shifted, holds-power, room-shifted}
 use Rattle.float.specs.Calls.{round_away}
-use Rattle.float_laws.specs.Vote.{term-within, mean-within}
+use Rattle.float_laws.proofs.Vote.{term-within, mean-within}
 use Rattle.dct.specs.Grid.{cell}
 use Rattle.dct.specs.Columns.{cell-grid}
 use Rattle.dct.specs.Matrix.{matrix, dct_entry, dct_turned}

@@ -33,19 +33,19 @@ six-home : (s : ℕ) → s < 64 → run s six_zeros ≡ 0
 unfolding run
 six-home s h = omega arith
 
-run-tail : (s : ℕ) (xs tail : List ℕ) → s < 64 → ((t : ℕ) → t < 64 → run t tail ≡ 0) → run s (record_bits xs tail) ≡ 0
+run-tail : (xs tail : List ℕ) (s : ℕ) → s < 64 → ((t : ℕ) → t < 64 → run t tail ≡ 0) → run s (record_bits xs tail) ≡ 0
 unfolding run record_bits
-run-tail s [] tail h k = k s h
-run-tail s (x ∷ xs) tail h k =
+run-tail [] tail s h k = k s h
+run-tail (x ∷ xs) tail s h k =
     let step : (b t : ℕ) → b < 2 → t < 64 → next_state b t < 64 = λ b t p q. omega arith in
-    run-tail _ xs tail
+    run-tail xs tail _
     (step (x % 2) _ (half-bit x) (step (x / 2 % 2) _ (half-bit (x / 2)) (step (x / 4 % 2) _ (half-bit (x / 4)) (step (x / 8 % 2) _ (half-bit (x / 8))
     (step (x / 16 % 2) _ (half-bit (x / 16))
     (step (x / 32 % 2) _ (half-bit (x / 32)) (step (x / 64 % 2) _ (half-bit (x / 64)) (step (x / 128 % 2) s (half-bit (x / 128)) h))))))))
     k
 
 pub record-home : (xs : List ℕ) → run 0 (record_bits xs six_zeros) ≡ 0
-record-home xs = run-tail 0 xs six_zeros (omega arith) six-home
+record-home xs = run-tail xs six_zeros 0 (omega arith) six-home
 
 -- ---- the record of a record's bits
 

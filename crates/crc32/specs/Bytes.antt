@@ -1,19 +1,22 @@
 -- The register over bytes: the first bits of a message are looked up at once, for all the turns that they still have to go,
 -- and the rest of the message goes on with the rest of the register.
-use Rattle.std.specs.Prelude.{◌≡◌, refl, Bool, List, [], ◌∷◌, ◌++◌, ℕ, suc, ◌+◌, ◌*◌, ◌-◌, ◌/◌, ◌%◌, ◌^◌, ◌≤◌, ◌<◌, length, get_or, take, drop}
-use Rattle.std.proofs.Common.{sym, ap, ap₂, ◌∙◌, append_assoc, mod-eq_of_lt, add-one, arith, lit<, length-append, length-drop, take-append-drop, drop_of_length-le, drop-cons, drop-drop}
+use Rattle.std.specs.Prelude.{◌≡◌, refl, Bool, false, not, List, [], ◌∷◌, ◌++◌, ℕ, ◌+◌, ◌*◌, ◌-◌, ◌/◌, ◌%◌, ◌^◌, ◌≤◌, ◌<◌, length, take, drop, replicate}
+use Rattle.std.proofs.Common.{sym, ap, ap₂, ◌∙◌, append_assoc, mod-eq_of_lt, arith, lit<, length-append, take-append-drop, drop_of_length-le, drop-drop}
+use mathlib.Core.List.{map, tail}
+use Rattle.std.proofs.lemmas.List.{length-map}
 use Rattle.std.specs.Int.Bits.{bit_xor}
-use Rattle.std.proofs.lemmas.Nat.{xor_mod, xor_shr, xor_lt}
+use Rattle.std.proofs.lemmas.Nat.{xor_mod, xor_shr}
 use Rattle.std.proofs.Math.Pow.{high, low}
-use Rattle.crc32.specs.Ieee8023.{low_bits, number, transmitted, crc_of}
-use Rattle.crc32.specs.Numbers.{number_lt, number_append, number-bits, xor_assoc}
-use Rattle.crc32.specs.Register.{register-append, register-lt, crc-register}
+use Rattle.crc32.specs.Ieee8023.{low_bits, number, transmitted, remainder, generator, polynomial, among, complemented, crc_of}
+use Rattle.crc32.specs.Division.{length-remainder}
+use Rattle.crc32.specs.Numbers.{number_lt, number_append}
+use Rattle.crc32.specs.Register.{register-append, register-lt}
 use Rattle.crc32.specs.Shift.{register_of, reflected, register_turns, register_after}
 use Rattle.crc32.specs.Turns.{at_once, turns-apart}
 
 module _ (g : ℕ) where
   -- the bits p are looked up for the turns of q too, and q goes on with what is left of the register
-  defer : (p q : List Bool) (x : ℕ)
+  pub defer : (p q : List Bool) (x : ℕ)
       → register_of g x (p ++ q) ≡ bit_xor (register_turns g (length p + length q) (bit_xor (number p) x % 2 ^ length p)) (register_of g (x / 2 ^ length p) q)
   defer p q x =
       let j = length p in
@@ -34,31 +37,38 @@ unfolding transmitted
 transmitted-append [] t = refl
 transmitted-append (b ∷ s) t = rw (transmitted-append s t) (sym (append_assoc (low_bits 8 b) (transmitted s) (transmitted t)))
 
-length-transmitted : (s : List ℕ) → length (transmitted s) ≡ 8 * length s
+pub length-transmitted : (s : List ℕ) → length (transmitted s) ≡ 8 * length s
 unfolding transmitted low_bits
 length-transmitted [] = refl
 length-transmitted (b ∷ s) = omega (arith, length-transmitted s)
 
-after-lt : (s : List ℕ) (x : ℕ) → x < 2 ^ 32 → register_after x s < 2 ^ 32
+pub after-lt : (s : List ℕ) (x : ℕ) → x < 2 ^ 32 → register_after x s < 2 ^ 32
 unfolding register_after
 after-lt s x l = register-lt reflected (lit< tt) (transmitted s) x l
 
-pub crc-after : (s : List ℕ) → crc_of s ≡ bit_xor (register_after 0xffffffff s) 0xffffffff
-unfolding register_after
-crc-after = crc-register
+-- to complement keeps the length
+length-complemented : (n : ℕ) (p : List Bool) → length (complemented n p) ≡ length p
+unfolding complemented
+length-complemented n p =
+    omega (
+      arith,
+      length-append (map not (take n p)) (drop n p),
+      length-map (take n p) not,
+      length-append (take n p) (drop n p),
+      ap length (take-append-drop n p),
+    )
 
+-- the CRC has 32 bits, since the remainder has
 pub crc-lt : (s : List ℕ) → crc_of s < 2 ^ 32
-crc-lt s = rw crc-after (xor_lt 32 (register_after 0xffffffff s) 0xffffffff (after-lt s 0xffffffff (lit< tt)) (lit< tt))
-
--- a byte with k bytes behind it has its own turns to go and theirs
-after-byte : (b : ℕ) (s : List ℕ) (x k : ℕ) → b < 256 → length s ≡ k
-    → register_after x (b ∷ s) ≡ bit_xor (register_turns reflected (8 * (k + 1)) (bit_xor b x % 256)) (register_after (x / 256) s)
-unfolding register_after transmitted low_bits
-after-byte b s x k h e =
-    let it : number (low_bits 8 b) ≡ b = number-bits 8 b ∙ mod-eq_of_lt h in
-    let to-go : 8 + length (transmitted s) ≡ 8 * (k + 1) = omega (arith, length-transmitted s) in
-    defer reflected (low_bits 8 b) (transmitted s) x
-    ∙ ap₂ (λ (n z : ℕ). bit_xor (register_turns reflected n (bit_xor z x % 256)) (register_after (x / 256) s)) to-go it
+unfolding crc_of generator polynomial among
+crc-lt s =
+    let m = transmitted s in
+    let p = complemented 32 (m ++ replicate 32 false) in
+    let r = remainder (length m) generator p in
+    let long : length p ≡ length m + 32 = length-complemented 32 (m ++ replicate 32 false) ∙ length-append m (replicate 32 false) in
+    let size : length r ≡ 32 = omega (arith, length-remainder (tail generator) (length m) p (omega arith)) in
+    let all : length (complemented 32 r) ≡ 32 = length-complemented 32 r ∙ size in
+    rw all at (number_lt (complemented 32 r))
 
 -- ---- how a loop over the bytes goes on
 
@@ -76,14 +86,3 @@ after_block x i e s h =
     ap (register_after (register_after x block)) (sym (drop-drop (e - i) i s ∙ ap (λ (k : ℕ). drop k s) there))
     ∙ sym (register-append reflected (transmitted block) (transmitted rest) x)
     ∙ ap (register_of reflected x) (sym (transmitted-append block rest) ∙ ap transmitted (take-append-drop (e - i) (drop i s)))
-
--- the byte at i is looked up
-pub register-more : (x sum i : ℕ) (s : List ℕ) → i < length s → get_or s i 0 < 256
-    → bit_xor (bit_xor sum (register_turns reflected (8 * (length s - 1 - i + 1)) (bit_xor (get_or s i 0) x % 256))) (register_after (x / 256) (drop (i + 1) s))
-    ≡ bit_xor sum (register_after x (drop i s))
-register-more x sum i s h l =
-    let b = get_or s i 0 in
-    let rest = drop (suc i) s in
-    let size : length rest ≡ length s - 1 - i = omega (arith, length-drop (suc i) s) in
-    rw (add-one i, drop-cons s i 0 h, after-byte b rest x (length s - 1 - i) l size)
-    (xor_assoc sum (register_turns reflected (8 * (length s - 1 - i + 1)) (bit_xor b x % 256)) (register_after (x / 256) rest))

@@ -1,12 +1,11 @@
 -- Bits and the numbers that have them: sums of polynomials are exclusive ors of numbers, which is therefore associative, and
 -- bits behind others count by their place.
-use Rattle.std.specs.Prelude.{◌≡◌, refl, Bool, true, false, cond, List, [], ◌∷◌, ◌++◌, ℕ, zero, suc, ◌+◌, ◌*◌, ◌/◌, ◌%◌, ◌^◌, ◌<◌, eqb, length, replicate}
-use Rattle.std.proofs.Common.{sym, ap, ap₂, ◌∙◌, mod-lt, mul_assoc, pow-suc, div-add-mod', add-one, arith, lit<}
-use Rattle.std.proofs.Math.Nat.{mod-one}
+use Rattle.std.specs.Prelude.{◌≡◌, refl, Bool, true, false, cond, List, [], ◌∷◌, ◌++◌, ℕ, zero, suc, ◌+◌, ◌*◌, ◌%◌, ◌^◌, ◌<◌, eqb, length, replicate}
+use Rattle.std.proofs.Common.{sym, ap, ap₂, ◌∙◌, mod-lt, mul_assoc, pow-suc, div-add-mod', arith, lit<}
 use Rattle.std.proofs.Math.Arith.{bin_ind}
 use Rattle.std.specs.Int.Bits.{bit_xor, xor_zero_r}
-use Rattle.std.proofs.lemmas.Nat.{xor_block, mod-pow-add}
-use Rattle.crc32.specs.Ieee8023.{plus_bit, ◌⊕◌, scaled, low_bits, number}
+use Rattle.std.proofs.lemmas.Nat.{xor_block}
+use Rattle.crc32.specs.Ieee8023.{plus_bit, ◌⊕◌, scaled, number}
 use Rattle.crc32.specs.Sum.{sum-assoc}
 
 -- ---- one bit
@@ -24,7 +23,7 @@ bit-sum false b = refl
 bit-sum true false = refl
 bit-sum true true = refl
 
-low_bit : (n : ℕ) → cond (eqb (n % 2) 1) 1 0 ≡ n % 2
+pub low_bit : (n : ℕ) → cond (eqb (n % 2) 1) 1 0 ≡ n % 2
 low_bit n = digit (n % 2) (mod-lt n (lit< tt))
   where
     digit : (r : ℕ) → r < 2 → cond (eqb r 1) 1 0 ≡ r
@@ -80,8 +79,3 @@ unfolding number
 number_append [] q = omega arith
 number_append (b ∷ p) q =
     omega (arith, number_append p q, ap (λ (x : ℕ). number q * x) (pow-suc 2 (length p)), mul_assoc (number q) (2 ^ length p) 2)
-
-pub number-bits : (k n : ℕ) → number (low_bits k n) ≡ n % 2 ^ k
-unfolding number low_bits
-number-bits zero n = sym (mod-one n)
-number-bits (suc k) n = rw (number-bits k (n / 2), low_bit n, ← add-one k) (sym (mod-pow-add n k 1))

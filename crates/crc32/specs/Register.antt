@@ -1,19 +1,18 @@
 -- The shift register: the remainder, as a number whose low bit is the leading coefficient, is found by feeding the message's
 -- bits one after the other. What is left of the dividend is the rest of the message, with the register added at its front.
-use Rattle.std.specs.Prelude.{◌≡◌, Bool, ℕ, ◌+◌, ◌/◌, ◌%◌, ◌^◌, ◌≤◌, ◌<◌, eqb, length}
+use Rattle.std.specs.Prelude.{◌≡◌, Bool, ℕ, ◌/◌, ◌%◌, ◌^◌, ◌<◌, eqb, length}
 use Rattle.std.proofs.Math.Path.{refl, ap}
-use Rattle.std.proofs.Common.{sym, ◌∙◌, zero-add, arith, length-append}
+use Rattle.std.proofs.Common.{sym, ◌∙◌, zero-add, arith}
 use Rattle.std.proofs.Math.Bool.{true, false, cond}
 use mathlib.Core.List.{List, [], ◌∷◌, ◌++◌, tail}
 use Rattle.std.specs.Int.Bits.{bit_xor, xor_lt}
 use Rattle.std.proofs.Math.Dec.{lit<}
 use Rattle.std.proofs.Math.ListN.{replicate}
 use Rattle.std.proofs.Math.Pow.{high, low}
-use Rattle.crc32.specs.Ieee8023.{plus_bit, ◌⊕◌, leading_bit, scaled, remainder, number, transmitted, generator, polynomial, among, complemented, crc_of}
-use Rattle.crc32.specs.Sum.{both, plus_comm, sum-assoc, sum_comm, length-plus, complemented-sum}
-use Rattle.crc32.specs.Division.{length-remainder}
+use Rattle.crc32.specs.Ieee8023.{plus_bit, ◌⊕◌, leading_bit, scaled, remainder, number}
+use Rattle.crc32.specs.Sum.{both, plus_comm, sum-assoc, sum_comm}
 use Rattle.crc32.specs.Numbers.{bit-lt, bit_test, number-sum, number-zeros, number-scaled}
-use Rattle.crc32.specs.Shift.{register_turn, register_of, reflected}
+use Rattle.crc32.specs.Shift.{register_turn, register_of}
 
 -- ---- long division by the register
 
@@ -30,7 +29,7 @@ front b p (a ∷ s) = refl
 
 module _ (g : List Bool) (n : ℕ) where
   -- the register s stands at the front of what is left of the message m and of the n zeros behind it
-  finds-remainder : (m s : List Bool)
+  pub finds-remainder : (m s : List Bool)
       → number (remainder (length m) (true ∷ g) ((m ++ replicate n false) ⊕ s)) ≡ register_of (number g) (number s) m
   unfolding remainder register_of ◌⊕◌ scaled leading_bit number
   finds-remainder [] s = number-sum (replicate n false) s ∙ ap (λ (x : ℕ). bit_xor x (number s)) (number-zeros n)
@@ -38,7 +37,7 @@ module _ (g : List Bool) (n : ℕ) where
       let z = m ++ replicate n false in
       let c = plus_bit b (leading_bit s) in
       let step : tail ((b ∷ z) ⊕ s ⊕ scaled (leading_bit ((b ∷ z) ⊕ s)) (true ∷ g)) ≡ z ⊕ (tail s ⊕ scaled c g) =
-      rw (front b z s) (sum-assoc z (tail s) (scaled c g)) in
+      ap (λ (t : List Bool). tail (t ⊕ scaled (leading_bit t) (true ∷ g))) (front b z s) ∙ sum-assoc z (tail s) (scaled c g) in
       let fed : number (c ∷ tail s) ≡ bit_xor (cond b 1 0) (number s) =
       ap number (sym (front b [] s)) ∙ number-sum (b ∷ []) s ∙ ap (λ (x : ℕ). bit_xor x (number s)) (zero-add (cond b 1 0)) in
       ap (λ (p : List Bool). number (remainder (length m) (true ∷ g) p)) step
@@ -64,21 +63,3 @@ module _ (g : ℕ) where
       added : (c : Bool) → cond c g 0 < 2 ^ 32
       added true = h
       added false = lit< tt
-
--- ---- the CRC by the register
-
-pub crc-register : (bytes : List ℕ) → crc_of bytes ≡ bit_xor (register_of reflected 0xffffffff (transmitted bytes)) 0xffffffff
-unfolding crc_of generator polynomial among number
-crc-register bytes =
-    let m = transmitted bytes in
-    let g = tail generator in
-    let ones = replicate 32 true in
-    let p = m ++ replicate 32 false in
-    let r = remainder (length m) generator (p ⊕ ones) in
-    let long : length p ≡ length m + 32 = length-append m (replicate 32 false) in
-    let whole : length (p ⊕ ones) ≡ length p = length-plus p ones (omega arith) in
-    let size : 32 ≤ length r = omega (arith, length-remainder g (length m) (p ⊕ ones) (omega arith)) in
-    ap (λ (q : List Bool). number (complemented 32 (remainder (length m) generator q))) (complemented-sum 32 p (omega arith))
-    ∙ ap number (complemented-sum 32 r size)
-    ∙ number-sum r ones
-    ∙ ap (λ (x : ℕ). bit_xor x 0xffffffff) (finds-remainder g 32 m ones)

@@ -5,7 +5,7 @@ use Rattle.std.proofs.Common.{sym, ap, ◌∙◌, subst, le_trans, le_of_eq, lt_
 use Rattle.std.proofs.Math.Nat.{lt-div-mul-add}
 use Rattle.std.specs.Int.Signed.{≤ℤ_refl, le_z_yes}
 use Rattle.std.specs.Float.{nan, inf, fin, Format}
-use Rattle.std.specs.Float.Ieee.{up, down, neg, fits, whole, to_signed}
+use Rattle.std.specs.Float.Ieee.{up, down, neg, fits, to_signed}
 use Rattle.std.specs.Float.Ieee.Fits.{down_pos, neg-fits}
 use Rattle.std.specs.Float.Ieee.Exact.{HasValue}
 use Rattle.float.specs.Fraction.{neg_value}

@@ -1,34 +1,32 @@
 -- 1 - 4 min(r, 1 - r), with r = x - floor x, lies from -1 to 1 at every finite x, and so does the mean of four values that do:
--- a block's vote. Generic over the format.
+-- a block's vote (proofs/Vote.antt). Generic over the format.
 use Rattle.std.specs.Prelude.{◌≡◌, refl, ◌⊎◌, Bool, true, false, not, ◌&&◌, cond, ℕ, ◌+◌, ◌-◌, ◌*◌, ◌/◌, ◌^◌, ◌≤◌, ◌<◌, ℤ, T, ltb, leb, Float}
 use Rattle.std.proofs.Common.{sym, ap, ◌∙◌, subst, inl, inr, true≢false, arith, ltb→lt, nltb→le, leb→le, lit≤}
 use native.Mathlib.Nat.{le_refl, le_of_lt, le_trans, le_of_eq, zero-lt-suc, mul-one, one-mul, mul_right_comm, mul-le-mul_right}
 use native.Mathlib.Nat.{le_of_mul-le-mul_right, div-mul-le_self, lt-div-mul-add}
 use Rattle.std.proofs.Math.Dec.{nleb→lt}
 use Rattle.std.specs.Float.{nan, inf, fin, Format, binary32, binary64}
-use Rattle.std.specs.Float.Ieee.{prec, low, up, down, round, sum, add, sub, mul, div, lt, fits, is_nan}
+use Rattle.std.specs.Float.Ieee.{prec, low, up, down, round, sum, sub, lt, fits, is_nan}
 use Rattle.std.specs.Float.Ieee.Fits.{down_pos}
 use Rattle.std.specs.Float.Ieee.Exact.{HasValue}
 use Rattle.std.specs.Float.Ieee.Scale.{grid, finite}
 use Rattle.float.specs.Fraction.{value-scale, sub_at}
-use Rattle.float_laws.specs.Product.{mul-value-at}
-use Rattle.seq.specs.Lists.{sum_to}
 use Rattle.float.specs.Calls.{floor, downward, smaller}
 use Rattle.float.specs.Step.{minus-at-most}
 use Rattle.float.specs.Whole.{floor-value}
-use Rattle.float.specs.Base.{zero-, two_to}
+use Rattle.float.specs.Base.{two_to}
 use Rattle.float_laws.specs.Values.{Within, Holds}
-use Rattle.float_laws.specs.Bounds.{holds-whole, holds-scaled, round-within, within_more, sum-to-within, div-within}
+use Rattle.float_laws.specs.Bounds.{holds-whole, holds-scaled, round-within}
 use Rattle.float.specs.Rounding.{round-shape}
 
-abbrev one : Float
+abbrev pub one : Float
 one = two_to 0
 
-abbrev four : Float
+abbrev pub four : Float
 four = two_to 2
 
 -- not negative, with the sign clear, and at most a / c
-abbrev Upto : Float → ℕ → ℕ → Type 0
+abbrev pub Upto : Float → ℕ → ℕ → Type 0
 Upto nan a c = ⊥
 Upto (inf s) a c = ⊥
 Upto (fin t m e) a c = (t ≡ false) × (m * up e * c ≤ a * down e)
@@ -40,13 +38,13 @@ upto-of nan g l a c h k = h
 upto-of (inf s) g l a c h k = h
 upto-of (fin t m e) g l a c h k = (h.0, k)
 
-round-upto : (f : Format) (n d a c : ℕ) → 0 < d → 0 < c → Holds f a c → n * c ≤ a * d → Upto (round f false n d) a c
+pub round-upto : (f : Format) (n d a c : ℕ) → 0 < d → 0 < c → Holds f a c → n * c ≤ a * d → Upto (round f false n d) a c
 round-upto f n d a c D C H h =
     let w : Within (round f false n d) a c = round-within f false n d a c D C H h in
     elim (round-shape f false n d)
     [ inl e ↦ absurd (subst (λ (z : Float). Within z a c) e w) | inr v ↦ upto-of (round f false n d) (grid f n d) (2 ^ low f) a c v w ]
 
-small-whole : (f : Format) (n : ℕ) → n ≤ 4 → Holds f n 1
+pub small-whole : (f : Format) (n : ℕ) → n ≤ 4 → Holds f n 1
 small-whole f n h = holds-whole f n (le_trans h (at_least f))
   where
     at_least : (g : Format) → 4 ≤ 2 ^ prec g
@@ -55,7 +53,7 @@ small-whole f n h = holds-whole f n (le_trans h (at_least f))
 
 -- ---- the fraction: x - floor x is a fraction below 1, rounded, with the sign clear
 
-record Frac (f : Format) (r : Float) : Type 0 where
+pub record Frac (f : Format) (r : Float) : Type 0 where
   pub numer : ℕ
   pub denom : ℕ
   pub denom_pos : 0 < denom
@@ -97,7 +95,7 @@ fraction-is f true a c C =
     go w l false true p q = absurd (native.Mathlib.Nat.not-le_of_lt (p tt) l)
     go w l false false p q = ap (λ (z : ℕ). round f false z c) (let k : w ≤ a = q tt in let z : a - w ≡ w - a = omega arith in z)
 
-frac : (f : Format) (x : Float) → T (fits f x) → T (finite x) → Frac f (sub f x (floor f x))
+pub frac : (f : Format) (x : Float) → T (fits f x) → T (finite x) → Frac f (sub f x (floor f x))
 frac f nan t h = absurd h
 frac f (inf s) t h = absurd h
 frac f (fin s m e) t h =
@@ -109,7 +107,7 @@ frac f (fin s m e) t h =
     subst (λ (z : Float). Frac f z) (sym (sub_at f (fin s m e) (floor f (fin s m e)) s s a (N * c) c (down_pos e) (refl, refl) v))
     (fraction-is f s a c (down_pos e))
 
-frac-upto : (f : Format) (r : Float) → Frac f r → Upto r 1 1
+pub frac-upto : (f : Format) (r : Float) → Frac f r → Upto r 1 1
 frac-upto f r h =
     subst (λ (z : Float). Upto z 1 1) (sym h.is)
     (round-upto f h.numer h.denom 1 1 h.denom_pos (zero-lt-suc 0) (small-whole f 1 (lit≤ tt)) (let p = h.proper in omega arith))
@@ -182,7 +180,7 @@ half-holds binary64 = holds-scaled binary64 1 1 (lit≤ tt) (lit≤ tt)
 twice-le : (a c : ℕ) → c < a * 2 → (c - a) * 2 ≤ 1 * c
 twice-le a c h = omega arith
 
-halves : (f : Format) (r : Float) → Upto r 1 1 → Upto (smaller r (sub f one r)) 1 2
+pub halves : (f : Format) (r : Float) → Upto r 1 1 → Upto (smaller r (sub f one r)) 1 2
 halves f nan h = absurd h
 halves f (inf s) h = absurd h
 halves f (fin true m e) h = absurd (true≢false h.0)
@@ -202,20 +200,7 @@ halves f (fin false m e) h =
     go false p n q = inr (subst (λ (z : Float). Upto z 1 2) (sym q)
         (round-upto f (down e - m * up e) (down e) 1 2 (down_pos e) (zero-lt-suc 1) (half-holds f) (twice-le (m * up e) (down e) (n tt))))
 
--- ---- four times that, and 1 less that
-
-four-le : (a c : ℕ) → a * 2 ≤ 1 * c → 4 * a * 1 ≤ 2 * (1 * c)
-four-le a c h = omega arith
-
-fourfold : (f : Format) (h : Float) → Upto h 1 2 → Upto (mul f four h) 2 1
-fourfold f nan k = absurd k
-fourfold f (inf s) k = absurd k
-fourfold f (fin true m e) k = absurd (true≢false k.0)
-fourfold f (fin false m e) k =
-    subst (λ (z : Float). Upto z 2 1)
-    (sym (mul-value-at f four (fin false m e) false false 4 1 (m * up e) (down e) (zero-lt-suc 0) (down_pos e) (refl, refl) (refl, refl)))
-    (round-upto f (4 * (m * up e)) (1 * down e) 2 1 (subst (λ (z : ℕ). 0 < z) (sym (one-mul (down e))) (down_pos e)) (zero-lt-suc 0)
-    (small-whole f 2 (lit≤ tt)) (four-le (m * up e) (down e) k.1))
+-- ---- 1 less a value from 0 to 2
 
 apart : (f : Format) (c b : ℕ) → 0 < c → b ≤ 2 * c → Within (sum f false c true b c) 1 1
 unfolding sum
@@ -225,7 +210,7 @@ apart f c b C h = go (ltb c b)
     go true = round-within f true (b - c) c 1 1 C (zero-lt-suc 0) (small-whole f 1 (lit≤ tt)) (omega arith)
     go false = round-within f false (c - b) c 1 1 C (zero-lt-suc 0) (small-whole f 1 (lit≤ tt)) (omega arith)
 
-one_less : (f : Format) (w : Float) → Upto w 2 1 → Within (sub f one w) 1 1
+pub one_less : (f : Format) (w : Float) → Upto w 2 1 → Within (sub f one w) 1 1
 one_less f nan k = absurd k
 one_less f (inf s) k = absurd k
 one_less f (fin true m e) k = absurd (true≢false k.0)
@@ -233,22 +218,3 @@ one_less f (fin false m e) k =
     subst (λ (z : Float). Within z 1 1)
     (sym (sub_at f one (fin false m e) false false (down e) (m * up e) (down e) (down_pos e) (one-is (down e)) (refl, refl)))
     (apart f (down e) (m * up e) (down_pos e) (le_trans (le_of_eq (sym (mul-one (m * up e)))) k.1))
-
--- ---- the term, and the mean of four
-
-pub term-within : (f : Format) (x : Float) → T (fits f x) → T (finite x) → let r = sub f x (floor f x) in
-    Within (sub f one (mul f four (smaller r (sub f one r)))) 1 1
-term-within f x t h =
-    let r = sub f x (floor f x) in
-    one_less f (mul f four (smaller r (sub f one r))) (fourfold f (smaller r (sub f one r)) (halves f r (frac-upto f r (frac f x t h))))
-
-pub mean-within : (f : Format) (t : ℕ → Float) → ((k : ℕ) → k < 4 → Within (t k) 1 1) → Within (div f (sum_to (add f) zero- 4 t) four) 1 1
-mean-within f t h =
-    let total = sum_to (add f) zero- 4 t in
-    let w : Within total 4 1 = sum-to-within f zero- t 4 1 0 1 (zero-lt-suc 0) (λ i l. small-whole f (0 + i * 1) (omega arith)) (le_refl 0) h in
-    within_more (div f total four) 4 4 1 1 (zero-lt-suc 3)
-    (div-within f total four false 4 1 4 1 (zero-lt-suc 0) (zero-lt-suc 3) (zero-lt-suc 0) (quarter f) w (refl, refl)) (le_refl 4)
-  where
-    quarter : (g : Format) → Holds g 4 4
-    quarter binary32 = holds-scaled binary32 4 2 (lit≤ tt) (lit≤ tt)
-    quarter binary64 = holds-scaled binary64 4 2 (lit≤ tt) (lit≤ tt)

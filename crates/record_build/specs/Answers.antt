@@ -1,5 +1,5 @@
 -- What was built by what it stands for: where there is a refusal the bytes are zeros. Definitions only.
-use Rattle.std.specs.Prelude.{replicate}
+use Rattle.std.specs.Prelude.{ℕ, List, replicate}
 use Rattle.refusal.specs.declared.Answer.TheVariants.{Done, Refused}
 use Rattle.record.specs.Record.{short, size, Outcome, refused, gives}
 use Rattle.record_build.specs.declared.Built.{Built}

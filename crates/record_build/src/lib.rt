@@ -83,6 +83,7 @@ fn fits(text: &[u8]) -> bool
 
 // The record of a text, plain or under the lock's key. Refused: a text over 32 bytes, and one that does
 // not pass the check on writing.
+#[tactic(auto, unfolding(record::specs::Record::built_of))]
 pub fn build_record(text: &[u8], lock: Lock) -> Built
     ensures { result ≡ built_as (built_of short text.now lock) }
 {

@@ -1,0 +1,26 @@
+-- What has been looked up and the register after the bytes that are left sum up to the register after all of them.
+use borrow.Author.Rules.{rules}
+use mathlib.Core.Path.{sym, ap, ◌∙◌}
+use Prim.Native.Nat.{◌<◌}
+use native.Mathlib.Omega.{arith}
+use lib.Bits.{bit_xor}
+use lib.ListN.{get_or}
+use Rattle.crc32.specs.Bytes.{after_none}
+use Rattle.crc32.proofs.Definition.{register-more}
+use Rattle.crc32.proofs.feed.Goals as goal
+
+pub loop-i-preserved : goal.loop-i-preserved
+loop-i-preserved c =
+    let l = c.loop-i in
+    let s = c.args.bytes.now in
+    let byte : get_or s l.i 0 < 256 = omega (arith, c.type_inv.bytes l.i) in (
+      search rules,
+      search rules,
+      rw (c.look_byte-sum.ensures, c.from_u8.ensures) (register-more l.x l.sum l.i s (omega arith) byte ∙ l.invariant.2),
+    )
+
+pub returns : goal.returns
+returns c =
+    let l = c.loop-i in
+    let s = c.args.bytes.now in
+    ap (bit_xor l.sum) (sym (after_none l.x l.i s (omega arith))) ∙ l.invariant.2
