@@ -2,7 +2,7 @@
 // `keystream`, and says of each whether the answer and the bytes are the ones expected.
 #![tactic(auto)]
 
-ghost use Rattle.std.specs.Prelude.{◌<◌};
+ghost use Rattle.std.specs.Prelude.{◌≡◌, ◌<◌, length};
 
 use keystream::Applied;
 use std::io;
