@@ -10,6 +10,8 @@ ghost use Rattle.dct.specs.Matrix.{dct_entry, dct_turned};
 
 use replay_lists::Field;
 use replay_lists::stored::{f32_of, pair, same, word};
+use std::io;
+use std::rt::Files;
 
 #[derive(Clone, Copy)]
 enum Stage {
@@ -199,7 +201,7 @@ fn agrees(text: &[u8], stage: Stage, operand: Field, res: Field) -> bool
         && is_result(stage, &raw, &expected)
 }
 
-fn replay(text: &[u8], name: &[u8], stage: Stage) {
+fn replay(rt: &impl Print, text: &[u8], name: &str, stage: Stage) -> io::Result<()> {
     let mut compared: u64 = 0;
     let mut different: u64 = 0;
     let mut at = 0;
@@ -214,21 +216,21 @@ fn replay(text: &[u8], name: &[u8], stage: Stage) {
             }
         }
     }
-    replay_lists::report(name, compared, different);
+    replay_lists::report(rt, name, compared, different)
 }
 
 // The list in the file `name`.
-fn list(name: &[u8], stage: Stage) {
+fn list(rt: &(impl Files + Print + Eprint), name: &str, stage: Stage) -> io::Result<()> {
     let mut text = replay_lists::room();
-    let count = replay_lists::load(name, &mut text);
-    replay(&text[..count], name, stage);
+    let count = replay_lists::load(rt, name, &mut text)?;
+    replay(rt, &text[..count], name, stage)
 }
 
-fn main() {
-    list(b"forward.txt", Stage::Forward);
-    list(b"inverse.txt", Stage::Inverse);
-    list(b"mark.txt", Stage::Mark);
-    list(b"vote.txt", Stage::Vote);
-    list(b"load.txt", Stage::Load);
-    list(b"store.txt", Stage::Store);
+fn main(rt: HostRuntime) -> io::Result<()> {
+    list(&rt, "forward.txt", Stage::Forward)?;
+    list(&rt, "inverse.txt", Stage::Inverse)?;
+    list(&rt, "mark.txt", Stage::Mark)?;
+    list(&rt, "vote.txt", Stage::Vote)?;
+    list(&rt, "load.txt", Stage::Load)?;
+    list(&rt, "store.txt", Stage::Store)
 }

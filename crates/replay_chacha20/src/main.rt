@@ -2,29 +2,25 @@
 // `keystream`, and says of each whether the answer and the bytes are the ones expected.
 #![tactic(auto)]
 
-ghost use Rattle.std.specs.Prelude.{◌<◌};
+ghost use Rattle.std.specs.Prelude.{◌≡◌, ◌<◌, length};
 
 use keystream::Applied;
-use libc::STDOUT_FILENO;
+use std::io;
 
 mod vectors;
 
-fn main() {
-    vectors::quarter_rounds();
-    vectors::blocks();
-    vectors::messages();
-    last_block();
-    past_the_end();
-    nothing_past_the_end();
+fn main(rt: HostRuntime) -> io::Result<()> {
+    vectors::quarter_rounds(&rt)?;
+    vectors::blocks(&rt)?;
+    vectors::messages(&rt)?;
+    last_block(&rt)?;
+    past_the_end(&rt)?;
+    nothing_past_the_end(&rt)
 }
 
-fn report(name: &[u8], good: bool) {
-    io::write_all(STDOUT_FILENO, name);
-    if good {
-        io::write_all(STDOUT_FILENO, b": ok\n");
-    } else {
-        io::write_all(STDOUT_FILENO, b": WRONG\n");
-    }
+fn report(rt: &impl Print, name: &str, good: bool) -> io::Result<()> {
+    let verdict = if good { "ok" } else { "WRONG" };
+    println!(rt; "{name}: {verdict}")
 }
 
 // The value of a lowercase hexadecimal digit.
@@ -98,11 +94,25 @@ fn is_end(a: Applied) -> bool {
     }
 }
 
-fn replay_block(name: &[u8], key: &[u8], counter: u32, nonce: &[u8], expected: &[u8]) {
+fn replay_block(
+    rt: &impl Print,
+    name: &str,
+    key: &[u8],
+    counter: u32,
+    nonce: &[u8],
+    expected: &[u8],
+) -> io::Result<()> {
     let k = key_of(key);
     let n = nonce_of(nonce);
     let block = chacha20::block(&k, counter, &n);
-    report(name, shows(expected, &block));
+    report(rt, name, shows(expected, &block))
+}
+
+// Room for a message: 4,096 zeros.
+fn room() -> [u8; 4096]
+    ensures { 4096 ≡ length result }
+{
+    [0; 4096]
 }
 
 // Whether a message goes to what is expected, with the position after it as the answer, and back
@@ -128,24 +138,26 @@ fn there_and_back(
 }
 
 fn replay_message(
-    name: &[u8],
+    rt: &impl Print,
+    name: &str,
     key: &[u8],
     counter: u32,
     nonce: &[u8],
     message: &[u8],
     expected: &[u8],
-) {
+) -> io::Result<()> {
     let k = key_of(key);
     let n = nonce_of(nonce);
     let len = message.len();
-    let mut room = io::buffer();
+    let mut room = room();
     if len <= room.len() {
         report(
+            rt,
             name,
             there_and_back(&k, counter, &n, message, expected, &mut room[..len]),
-        );
+        )
     } else {
-        report(name, false);
+        report(rt, name, false)
     }
 }
 
@@ -161,14 +173,14 @@ fn zeros() -> [u8; 64] {
     [0; 64]
 }
 
-fn last_block() {
+fn last_block(rt: &impl Print) -> io::Result<()> {
     let mut bytes = zeros();
     let next = request(END - 64, &mut bytes);
     let right = shows(
         b"1ce0deb8925fccea2d5587e850054559edcbbeb1a6c8e1c02c1e89abba08b01cad6048fe5ab5242ed6befbef6b4040fcb666a5f3858d942a912c4e8800301a42",
         &bytes,
     );
-    report(b"the last block", is_next(next, END) && right);
+    report(rt, "the last block", is_next(next, END) && right)
 }
 
 fn sevens() -> [u8; 65] {
@@ -176,7 +188,7 @@ fn sevens() -> [u8; 65] {
 }
 
 // A request that needs one byte too many, from within the last block and at the end.
-fn past_the_end() {
+fn past_the_end(rt: &impl Print) -> io::Result<()> {
     let mut bytes = sevens();
     let mut one = [7u8; 1];
     let within = request(END - 64, &mut bytes);
@@ -184,17 +196,19 @@ fn past_the_end() {
     let before = sevens();
     let unchanged = check::same(&bytes, &before) && one[0] == 7;
     report(
-        b"one byte past the end",
+        rt,
+        "one byte past the end",
         is_end(within) && is_end(at_end) && unchanged,
-    );
+    )
 }
 
-fn nothing_past_the_end() {
+fn nothing_past_the_end(rt: &impl Print) -> io::Result<()> {
     let mut none = [7u8; 1];
     let at_end = request(END, &mut none[..0]);
     let far = request(u64::MAX, &mut none[..0]);
     report(
-        b"no byte past the end",
+        rt,
+        "no byte past the end",
         is_next(at_end, END) && is_next(far, u64::MAX),
-    );
+    )
 }

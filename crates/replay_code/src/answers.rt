@@ -4,6 +4,8 @@ ghost use Rattle.replay_lists.specs.Fields.{InText};
 use encoder::{CODED, RECORD};
 use replay_lists::Field;
 use replay_lists::stored::{bits_of_f32, f32_of, word};
+use std::io;
+use std::rt::Files;
 
 fn same_coded(coded: &[u8; CODED], packed: &[u8; 94]) -> bool {
     for i in 0..CODED {
@@ -58,7 +60,7 @@ fn decodes(text: &[u8], soft: Field, bytes: Field, metric: Field) -> bool
         && bits_of_f32(d.metric) == last.value
 }
 
-fn replay_encoder(text: &[u8]) {
+fn replay_encoder(rt: &impl Print, text: &[u8]) -> io::Result<()> {
     let mut compared: u64 = 0;
     let mut different: u64 = 0;
     let mut at = 0;
@@ -73,10 +75,10 @@ fn replay_encoder(text: &[u8]) {
             }
         }
     }
-    replay_lists::report(b"encode", compared, different);
+    replay_lists::report(rt, "encode", compared, different)
 }
 
-fn replay_decoder(text: &[u8]) {
+fn replay_decoder(rt: &impl Print, text: &[u8]) -> io::Result<()> {
     let mut compared: u64 = 0;
     let mut different: u64 = 0;
     let mut at = 0;
@@ -92,20 +94,20 @@ fn replay_decoder(text: &[u8]) {
             }
         }
     }
-    replay_lists::report(b"decode", compared, different);
+    replay_lists::report(rt, "decode", compared, different)
 }
 
-fn with_list(name: &[u8], of_votes: bool) {
+fn with_list(rt: &(impl Files + Print + Eprint), name: &str, of_votes: bool) -> io::Result<()> {
     let mut text = replay_lists::room();
-    let count = replay_lists::load(name, &mut text);
+    let count = replay_lists::load(rt, name, &mut text)?;
     if of_votes {
-        replay_decoder(&text[..count]);
+        replay_decoder(rt, &text[..count])
     } else {
-        replay_encoder(&text[..count]);
+        replay_encoder(rt, &text[..count])
     }
 }
 
-pub fn replay() {
-    with_list(b"encode.txt", false);
-    with_list(b"decode.txt", true);
+pub fn replay(rt: &(impl Files + Print + Eprint)) -> io::Result<()> {
+    with_list(rt, "encode.txt", false)?;
+    with_list(rt, "decode.txt", true)
 }

@@ -3,6 +3,7 @@
 use decoder::viterbi;
 use encoder::{RECORD, encode};
 use picture::BLOCKS;
+use std::io;
 
 fn sure(bit: u8) -> f32 {
     if bit == 0 { 1.0 } else { -1.0 }
@@ -74,13 +75,13 @@ fn limit() -> u64 {
     }
 }
 
-pub fn run() {
+pub fn run(rt: &impl Print) -> io::Result<()> {
     let mut bytes = [0u8; RECORD];
     bytes[0] = 0x31;
     bytes[5] = 3;
     bytes[6] = b'V';
     bytes[40] = 0xa5;
-    replay_lists::report(b"one block zeroed", 1024, single_faults(&bytes, 0.0));
-    replay_lists::report(b"one block reversed", 1024, single_faults(&bytes, -1.0));
-    replay_lists::report(b"limit of demand 3", 1, limit());
+    replay_lists::report(rt, "one block zeroed", 1024, single_faults(&bytes, 0.0))?;
+    replay_lists::report(rt, "one block reversed", 1024, single_faults(&bytes, -1.0))?;
+    replay_lists::report(rt, "limit of demand 3", 1, limit())
 }

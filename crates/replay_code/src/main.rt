@@ -5,7 +5,9 @@
 mod answers;
 mod faults;
 
-fn main() {
-    answers::replay();
-    faults::run();
+use std::io;
+
+fn main(rt: HostRuntime) -> io::Result<()> {
+    answers::replay(&rt)?;
+    faults::run(&rt)
 }

@@ -4,6 +4,7 @@
 ghost use Rattle.replay_lists.specs.Fields.{InText};
 
 use replay_lists::Field;
+use std::io;
 
 fn agrees(text: &[u8], message: Field, stored: Field) -> bool
     requires { InText text.now message × InText text.now stored }
@@ -15,7 +16,7 @@ fn agrees(text: &[u8], message: Field, stored: Field) -> bool
     decoded.good && crc.good && crc32::crc32(&bytes[..count]) as u64 == crc.value
 }
 
-fn replay(text: &[u8]) {
+fn replay(rt: &impl Print, text: &[u8]) -> io::Result<()> {
     let mut compared: u64 = 0;
     let mut different: u64 = 0;
     let mut at = 0;
@@ -30,11 +31,11 @@ fn replay(text: &[u8]) {
             }
         }
     }
-    replay_lists::report(b"crc32", compared, different);
+    replay_lists::report(rt, "crc32", compared, different)
 }
 
-fn main() {
+fn main(rt: HostRuntime) -> io::Result<()> {
     let mut text = replay_lists::room();
-    let count = replay_lists::load(b"crc32.txt", &mut text);
-    replay(&text[..count]);
+    let count = replay_lists::load(&rt, "crc32.txt", &mut text)?;
+    replay(&rt, &text[..count])
 }

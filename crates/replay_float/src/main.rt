@@ -9,6 +9,8 @@ ghost use Rattle.replay_lists.specs.Fields.{InText};
 
 use call::Call;
 use replay_lists::Field;
+use std::io;
+use std::rt::Files;
 
 fn agrees(text: &[u8], which: Call, one: Field, other: Field, res: Field) -> bool
     requires { InText text.now one × InText text.now other × InText text.now res }
@@ -31,7 +33,7 @@ fn other_operand(text: &[u8], which: Call, one: Field) -> Field
     }
 }
 
-fn replay(text: &[u8], name: &[u8], which: Call) {
+fn replay(rt: &impl Print, text: &[u8], name: &str, which: Call) -> io::Result<()> {
     let mut compared: u64 = 0;
     let mut different: u64 = 0;
     let mut at = 0;
@@ -47,26 +49,26 @@ fn replay(text: &[u8], name: &[u8], which: Call) {
             }
         }
     }
-    replay_lists::report(name, compared, different);
+    replay_lists::report(rt, name, compared, different)
 }
 
 // The list in the file `name`.
-fn list(name: &[u8], which: Call) {
+fn list(rt: &(impl Files + Print + Eprint), name: &str, which: Call) -> io::Result<()> {
     let mut text = replay_lists::room();
-    let count = replay_lists::load(name, &mut text);
-    replay(&text[..count], name, which);
+    let count = replay_lists::load(rt, name, &mut text)?;
+    replay(rt, &text[..count], name, which)
 }
 
-fn main() {
-    list(b"round_f32.txt", Call::RoundF32);
-    list(b"floor_f32.txt", Call::FloorF32);
-    list(b"round_to_u8.txt", Call::RoundToU8);
-    list(b"in_unit.txt", Call::InUnit);
-    list(b"f32_from_bits.txt", Call::F32FromBits);
-    list(b"floor_f64_to_i64.txt", Call::FloorF64ToI64);
-    list(b"ceil_f64_to_i64.txt", Call::CeilF64ToI64);
-    list(b"abs_f64.txt", Call::AbsF64);
-    list(b"narrow_f64.txt", Call::NarrowF64);
-    list(b"min_f32.txt", Call::MinF32);
-    list(b"max_f64.txt", Call::MaxF64);
+fn main(rt: HostRuntime) -> io::Result<()> {
+    list(&rt, "round_f32.txt", Call::RoundF32)?;
+    list(&rt, "floor_f32.txt", Call::FloorF32)?;
+    list(&rt, "round_to_u8.txt", Call::RoundToU8)?;
+    list(&rt, "in_unit.txt", Call::InUnit)?;
+    list(&rt, "f32_from_bits.txt", Call::F32FromBits)?;
+    list(&rt, "floor_f64_to_i64.txt", Call::FloorF64ToI64)?;
+    list(&rt, "ceil_f64_to_i64.txt", Call::CeilF64ToI64)?;
+    list(&rt, "abs_f64.txt", Call::AbsF64)?;
+    list(&rt, "narrow_f64.txt", Call::NarrowF64)?;
+    list(&rt, "min_f32.txt", Call::MinF32)?;
+    list(&rt, "max_f64.txt", Call::MaxF64)
 }

@@ -12,6 +12,8 @@ use encoder::CODED;
 use picture::BLOCKS;
 use replay_lists::Field;
 use replay_lists::stored::{f32_of, number, pair, word};
+use std::io;
+use std::rt::Files;
 
 #[derive(Clone, Copy)]
 enum Stage {
@@ -148,7 +150,7 @@ fn agrees(text: &[u8], stage: Stage, operand: Field, res: Field) -> bool
     }
 }
 
-fn replay(text: &[u8], name: &[u8], stage: Stage) {
+fn replay(rt: &impl Print, text: &[u8], name: &str, stage: Stage) -> io::Result<()> {
     let mut compared: u64 = 0;
     let mut different: u64 = 0;
     let mut at = 0;
@@ -163,19 +165,19 @@ fn replay(text: &[u8], name: &[u8], stage: Stage) {
             }
         }
     }
-    replay_lists::report(name, compared, different);
+    replay_lists::report(rt, name, compared, different)
 }
 
 // The list in the file `name`.
-fn list(name: &[u8], stage: Stage) {
+fn list(rt: &(impl Files + Print + Eprint), name: &str, stage: Stage) -> io::Result<()> {
     let mut text = replay_lists::room();
-    let count = replay_lists::load(name, &mut text);
-    replay(&text[..count], name, stage);
+    let count = replay_lists::load(rt, name, &mut text)?;
+    replay(rt, &text[..count], name, stage)
 }
 
-fn main() {
-    list(b"layout.txt", Stage::Layout);
-    list(b"dither.txt", Stage::Dither);
-    list(b"shuffle.txt", Stage::Shuffle);
-    list(b"accepted.txt", Stage::Accepted);
+fn main(rt: HostRuntime) -> io::Result<()> {
+    list(&rt, "layout.txt", Stage::Layout)?;
+    list(&rt, "dither.txt", Stage::Dither)?;
+    list(&rt, "shuffle.txt", Stage::Shuffle)?;
+    list(&rt, "accepted.txt", Stage::Accepted)
 }

@@ -6,8 +6,12 @@
 pub mod stored;
 
 ghost use Rattle.std.specs.Prelude.{◌+◌, ◌/◌, ◌≤◌, ◌<◌, min, ◌≡◌, length};
-ghost use Rattle.io.specs.Counts.{IsPrefixLen};
-ghost use Rattle.replay_lists.specs.Fields.{InText};
+ghost use Rattle.std.specs.Io.{ReadsAtMost};
+ghost use Rattle.replay_lists.specs.Fields.{InText, IsPrefixLen};
+
+use std::io::Read;
+use std::rt::Files;
+use std::{fs, io};
 
 // The bytes of a text from `start` up to, not including, `end`. An empty one at the text's end says that none was left.
 #[derive(Clone, Copy)]
@@ -38,21 +42,43 @@ pub fn room() -> [u8; 262144]
 }
 
 // Reads the file into `text` and answers its length: 0, with a word on standard error, where it cannot be read or has no room.
-pub fn load(path: &[u8], text: &mut [u8]) -> usize
-    ensures { IsPrefixLen result text.new }
+// An error is that of writing this word.
+pub fn load(rt: &(impl Files + Eprint), path: &str, text: &mut [u8]) -> io::Result<usize>
+    ensures { ReadsAtMost result text.new }
 {
-    let fd = os::open_read(path);
-    if fd < 0 {
-        os::fail(path);
-        return 0;
+    match read_file(rt, path, text) {
+        Ok(count) if count < text.len() => Ok(count),
+        Ok(_) => {
+            eprintln!(rt; "a list has no room")?;
+            Ok(0)
+        }
+        Err(error) => {
+            eprintln!(rt; "{path}: {error}")?;
+            Ok(0)
+        }
     }
-    let n = io::read_full(fd, text);
-    libc::close(fd);
-    if n == text.len() {
-        io::write_all(libc::STDERR_FILENO, b"a list has no room\n");
-        return 0;
+}
+
+fn read_file(files: &impl Files, path: &str, text: &mut [u8]) -> io::Result<usize>
+    ensures { ReadsAtMost result text.new }
+{
+    let mut file = fs::open(files, path)?;
+    read_full(&mut file, text)
+}
+
+// Reads until `text` is full or the input ends, and answers how many bytes stand at its start.
+fn read_full(input: &mut impl Read, text: &mut [u8]) -> io::Result<usize>
+    ensures { ReadsAtMost result text.new }
+{
+    let mut count = 0;
+    while count < text.len() {
+        let more = input.read(&mut text[count..])?;
+        if more == 0 {
+            break;
+        }
+        count += more;
     }
-    n
+    Ok(count)
 }
 
 // The first field at or behind place `at`, past blanks and past lines that begin with #.
@@ -182,12 +208,6 @@ fn digit(byte: u8) -> u64
 }
 
 // The line that a replay program ends with: how many cases were compared, and how many of them differ.
-pub fn report(name: &[u8], compared: u64, different: u64) {
-    let out = libc::STDOUT_FILENO;
-    io::write_all(out, name);
-    io::write_all(out, b": ");
-    io::print_decimal(out, compared);
-    io::write_all(out, b" compared, ");
-    io::print_decimal(out, different);
-    io::write_all(out, b" different\n");
+pub fn report(rt: &impl Print, name: &str, compared: u64, different: u64) -> io::Result<()> {
+    println!(rt; "{name}: {compared} compared, {different} different")
 }

@@ -10,6 +10,8 @@ ghost use Rattle.replay_record.specs.Cases.{RecordCase};
 use record::{Key, Lock};
 use refusal::Answer;
 use replay_lists::Field;
+use std::io;
+use std::rt::Files;
 
 // The fields of a case, in their order.
 #[derive(Clone, Copy)]
@@ -138,7 +140,7 @@ fn agrees(text: &[u8], case: Case, reading: bool) -> bool
     }
 }
 
-fn replay(text: &[u8], name: &[u8], reading: bool) {
+fn replay(rt: &impl Print, text: &[u8], name: &str, reading: bool) -> io::Result<()> {
     let mut compared: u64 = 0;
     let mut different: u64 = 0;
     let mut at = 0;
@@ -153,13 +155,18 @@ fn replay(text: &[u8], name: &[u8], reading: bool) {
             }
         }
     }
-    replay_lists::report(name, compared, different);
+    replay_lists::report(rt, name, compared, different)
 }
 
-fn list(path: &[u8], name: &[u8], reading: bool) {
+fn list(
+    rt: &(impl Files + Print + Eprint),
+    path: &str,
+    name: &str,
+    reading: bool,
+) -> io::Result<()> {
     let mut text = replay_lists::room();
-    let count = replay_lists::load(path, &mut text);
-    replay(&text[..count], name, reading);
+    let count = replay_lists::load(rt, path, &mut text)?;
+    replay(rt, &text[..count], name, reading)
 }
 
 // 0 where the text is refused as too long, with its own length and not a byte of a record, else 1.
@@ -186,14 +193,14 @@ fn taken(text: &[u8]) -> u64
 }
 
 // Lengths that a byte or two would hold as 255, 0, 32 and 0.
-fn long_texts() {
+fn long_texts(rt: &impl Print) -> io::Result<()> {
     let text = [b'a'; 65536];
     let short = taken(&text[..255]) + taken(&text[..256]) + taken(&text[..288]);
-    replay_lists::report(b"long", 4, short + taken(&text));
+    replay_lists::report(rt, "long", 4, short + taken(&text))
 }
 
-fn main() {
-    list(b"build.txt", b"build", false);
-    list(b"parse.txt", b"parse", true);
-    long_texts();
+fn main(rt: HostRuntime) -> io::Result<()> {
+    list(&rt, "build.txt", "build", false)?;
+    list(&rt, "parse.txt", "parse", true)?;
+    long_texts(&rt)
 }

@@ -14,7 +14,9 @@ use replay_lists::stored::{
     bits_of_f32, bits_of_f64, f32_of, f64_of, number, pair, same, wide, word,
 };
 use resample_window::{Weight, Window};
+use std::io;
 use std::num::nearest_i64_to_f64;
+use std::rt::Files;
 
 #[derive(Clone, Copy)]
 enum Stage {
@@ -363,7 +365,7 @@ fn agrees(text: &[u8], stage: Stage, operand: Field, res: Field) -> bool
     }
 }
 
-fn replay(text: &[u8], name: &[u8], stage: Stage) {
+fn replay(rt: &impl Print, text: &[u8], name: &str, stage: Stage) -> io::Result<()> {
     let mut compared: u64 = 0;
     let mut different: u64 = 0;
     let mut at = 0;
@@ -378,20 +380,20 @@ fn replay(text: &[u8], name: &[u8], stage: Stage) {
             }
         }
     }
-    replay_lists::report(name, compared, different);
+    replay_lists::report(rt, name, compared, different)
 }
 
 // The list in the file `name`.
-fn list(name: &[u8], stage: Stage) {
+fn list(rt: &(impl Files + Print + Eprint), name: &str, stage: Stage) -> io::Result<()> {
     let mut text = replay_lists::room();
-    let count = replay_lists::load(name, &mut text);
-    replay(&text[..count], name, stage);
+    let count = replay_lists::load(rt, name, &mut text)?;
+    replay(rt, &text[..count], name, stage)
 }
 
-fn main() {
-    list(b"window.txt", Stage::Window);
-    list(b"weight.txt", Stage::Weight);
-    list(b"luma.txt", Stage::Luma);
-    list(b"plane.txt", Stage::Plane);
-    list(b"change.txt", Stage::Change);
+fn main(rt: HostRuntime) -> io::Result<()> {
+    list(&rt, "window.txt", Stage::Window)?;
+    list(&rt, "weight.txt", Stage::Weight)?;
+    list(&rt, "luma.txt", Stage::Luma)?;
+    list(&rt, "plane.txt", Stage::Plane)?;
+    list(&rt, "change.txt", Stage::Change)
 }

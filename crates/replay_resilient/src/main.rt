@@ -13,7 +13,9 @@ use picture::Picture;
 use record::{Key, Lock, Reading};
 use refusal::Answer;
 use replay_lists::Field;
+use std::io;
 use std::num::wrapping_add_u64;
+use std::rt::Files;
 
 // Samples of four channels, and of three.
 const FOUR: usize = 1048576;
@@ -295,17 +297,22 @@ fn replay(text: &[u8], samples: &mut [u8], work: &mut [f32]) -> Tally
     tally
 }
 
-fn report(name: &[u8], tally: Tally) {
-    replay_lists::report(name, tally.compared, tally.different);
+fn report(rt: &impl Print, name: &str, tally: Tally) -> io::Result<()> {
+    replay_lists::report(rt, name, tally.compared, tally.different)
 }
 
 // The list in the file `name`.
-fn list(name: &[u8], samples: &mut [u8], work: &mut [f32])
+fn list(
+    rt: &(impl Files + Print + Eprint),
+    name: &str,
+    samples: &mut [u8],
+    work: &mut [f32],
+) -> io::Result<()>
     requires { (length samples.old ≡ 1048576) × (length work.old ≤ 1048576) }
 {
     let mut text = replay_lists::room();
-    let end = replay_lists::load(name, &mut text);
-    report(name, replay(&text[..end], samples, work));
+    let end = replay_lists::load(rt, name, &mut text)?;
+    report(rt, name, replay(&text[..end], samples, work))
 }
 
 fn shape(width: usize, height: usize, channels: usize) -> Picture {
@@ -400,9 +407,9 @@ fn read_counts(tally: Tally) -> Tally {
     may_read(t, shape(1, 1, 3), 3, 65536, 7, 65537)
 }
 
-fn limits() {
+fn limits(rt: &impl Print) -> io::Result<()> {
     let written = write_counts(write_sides(none()));
-    report(b"limits", read_counts(read_sides(written)));
+    report(rt, "limits", read_counts(read_sides(written)))
 }
 
 fn no_lock() -> Lock {
@@ -579,11 +586,11 @@ fn reading(tally: Tally, samples: &[u8], work: &mut [f32]) -> Tally
 }
 
 // Neighbouring refusals apply at once: the first is given.
-fn order(samples: &mut [u8], work: &mut [f32])
+fn order(rt: &impl Print, samples: &mut [u8], work: &mut [f32]) -> io::Result<()>
     requires { (length samples.old ≡ 1048576) × (length work.old ≡ 655424) }
 {
     let t = writing(samples, work);
-    report(b"order", reading(t, samples, work));
+    report(rt, "order", reading(t, samples, work))
 }
 
 // The text that is written into the picture that is damaged, and laid over the votes, with zeros after it.
@@ -668,12 +675,12 @@ fn damaged_part(tally: Tally, samples: &mut [u8], n: usize, work: &mut [f32]) ->
     damaged(tally, &mut samples[0..n], work)
 }
 
-fn pictures(samples: &mut [u8], work: &mut [f32])
+fn pictures(rt: &impl Print, samples: &mut [u8], work: &mut [f32]) -> io::Result<()>
     requires { (length samples.old ≡ 1048576) × (length work.old ≡ 655424) }
 {
     draw(samples);
     let t = small(tiny(none(), samples, work), samples, work);
-    report(b"pictures", damaged_part(t, samples, THREE, work));
+    report(rt, "pictures", damaged_part(t, samples, THREE, work))
 }
 
 // A vote without doubt for each digit, 0 or 1.
@@ -705,31 +712,35 @@ fn with_keys(votes: &[f32]) -> Tally {
 }
 
 // The file has a digit for each block: the bit that the Rust lays there of the text's record under the first key.
-fn keyed(name: &[u8]) {
+fn keyed(rt: &(impl Files + Print + Eprint), name: &str) -> io::Result<()> {
     let mut text = replay_lists::room();
     let mut votes = [0.0f32; 1024];
-    replay_lists::load(name, &mut text);
+    replay_lists::load(rt, name, &mut text)?;
     vote_all(&text[0..1024], &mut votes);
-    report(name, with_keys(&votes));
+    report(rt, name, with_keys(&votes))
 }
 
-fn run(samples: &mut [u8], work: &mut [f32])
+fn run(rt: &(impl Files + Print + Eprint), samples: &mut [u8], work: &mut [f32]) -> io::Result<()>
     requires { (length samples.old ≡ 1048576) × (length work.old ≡ 655424) }
 {
-    list(b"marks.txt", samples, work);
-    limits();
-    order(samples, work);
-    pictures(samples, work);
-    keyed(b"keyed");
+    list(rt, "marks.txt", samples, work)?;
+    limits(rt)?;
+    order(rt, samples, work)?;
+    pictures(rt, samples, work)?;
+    keyed(rt, "keyed")
 }
 
 // Lent as arrays they have their lengths by type, and no proof counts a million places.
-fn lent(samples: &mut [u8; FOUR], work: &mut [f32; WORK]) {
-    run(samples, work);
+fn lent(
+    rt: &(impl Files + Print + Eprint),
+    samples: &mut [u8; FOUR],
+    work: &mut [f32; WORK],
+) -> io::Result<()> {
+    run(rt, samples, work)
 }
 
-fn main() {
+fn main(rt: HostRuntime) -> io::Result<()> {
     let mut samples = [0u8; FOUR];
     let mut work = [0.0f32; WORK];
-    lent(&mut samples, &mut work);
+    lent(&rt, &mut samples, &mut work)
 }

@@ -2,6 +2,7 @@
 ghost use Rattle.replay_lists.specs.Fields.{InText};
 
 use replay_lists::Field;
+use std::io;
 
 fn agrees(text: &[u8], string: Field, stored: Field) -> bool
     requires { InText text.now string × InText text.now stored }
@@ -13,7 +14,7 @@ fn agrees(text: &[u8], string: Field, stored: Field) -> bool
     decoded.good && expected.good && super::answer(&bytes[..count]) == expected.value
 }
 
-pub fn replay(text: &[u8], name: &[u8]) {
+pub fn replay(rt: &impl Print, text: &[u8], name: &str) -> io::Result<()> {
     let mut compared: u64 = 0;
     let mut different: u64 = 0;
     let mut at = 0;
@@ -28,5 +29,5 @@ pub fn replay(text: &[u8], name: &[u8]) {
             }
         }
     }
-    replay_lists::report(name, compared, different);
+    replay_lists::report(rt, name, compared, different)
 }

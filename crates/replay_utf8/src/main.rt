@@ -7,6 +7,9 @@ ghost use Rattle.std.specs.Prelude.{◌≤◌};
 mod cases;
 mod short;
 
+use std::io;
+use std::rt::Files;
+
 // What a check adds to the answer: its value where it takes the bytes.
 fn worth(taken: bool, value: u64) -> u64
     ensures { result ≤ value }
@@ -19,20 +22,20 @@ fn answer(bytes: &[u8]) -> u64 {
     worth(utf8::well_formed(bytes), 1) + worth(utf8::counted(bytes), 2)
 }
 
-fn list_short(name: &[u8]) {
+fn list_short(rt: &(impl Files + Print + Eprint), name: &str) -> io::Result<()> {
     let mut text = replay_lists::room();
-    let count = replay_lists::load(name, &mut text);
-    short::replay(&text[..count], name);
+    let count = replay_lists::load(rt, name, &mut text)?;
+    short::replay(rt, &text[..count], name)
 }
 
-fn list_cases(name: &[u8]) {
+fn list_cases(rt: &(impl Files + Print + Eprint), name: &str) -> io::Result<()> {
     let mut text = replay_lists::room();
-    let count = replay_lists::load(name, &mut text);
-    cases::replay(&text[..count], name);
+    let count = replay_lists::load(rt, name, &mut text)?;
+    cases::replay(rt, &text[..count], name)
 }
 
-fn main() {
-    list_short(b"short.txt");
-    list_cases(b"edges.txt");
-    list_cases(b"neighbours.txt");
+fn main(rt: HostRuntime) -> io::Result<()> {
+    list_short(&rt, "short.txt")?;
+    list_cases(&rt, "edges.txt")?;
+    list_cases(&rt, "neighbours.txt")
 }

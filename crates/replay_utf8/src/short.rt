@@ -2,6 +2,8 @@
 // line 1 + b for those of two that start with b. Each string has two bits of a word, in the order of the last byte.
 ghost use Rattle.std.specs.Prelude.{◌≤◌, ◌<◌};
 
+use std::io;
+
 // The answer for the string of a line that ends in `last`.
 fn answer_on(line: usize, last: u8) -> u64
     requires { line ≤ 256 }
@@ -30,7 +32,7 @@ fn different_in(k: usize, word: u64) -> u64
     different
 }
 
-pub fn replay(text: &[u8], name: &[u8]) {
+pub fn replay(rt: &impl Print, text: &[u8], name: &str) -> io::Result<()> {
     let mut different: u64 = 0;
     let mut at = 0;
     for k in 0..2056 {
@@ -43,5 +45,5 @@ pub fn replay(text: &[u8], name: &[u8]) {
             different += 32;
         }
     }
-    replay_lists::report(name, 65_792, different);
+    replay_lists::report(rt, name, 65_792, different)
 }

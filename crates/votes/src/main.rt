@@ -3,12 +3,14 @@
 #![tactic(auto)]
 
 use report::INPUT;
+use std::io;
+use std::io::Read;
 
-fn main() {
-    let mut bytes = [0u8; INPUT];
-    let count = io::read_full(libc::STDIN_FILENO, &mut bytes);
-    let answer = report::say(&bytes[..count]);
+fn main(rt: HostRuntime) -> io::Result<()> {
+    let mut bytes = Vec::new(rt.alloc());
+    rt.reader().take(INPUT as u64).read_to_end(&mut bytes)?;
+    let answer = report::say(&bytes);
     let line = answer.bytes;
     let length = answer.length;
-    io::write_all(libc::STDOUT_FILENO, &line[..length]);
+    rt.write_all(&line[..length])
 }
