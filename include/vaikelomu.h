@@ -1,7 +1,7 @@
 /*
  * Vaikelomu: a text of at most 32 bytes, written into a picture so that it can't be seen and survives
  * recompression and scaling, and read back. For C90 with long long, C99 and C++, on x86-64 Linux. Link with
- * target/staticlib/libvaikelomu.a, which `rt staticlib vaikelomu` writes, and the C library.
+ * target/staticlib/libvaikelomu.a, which `tools/staticlib` writes, and the C library.
  *
  * Samples. A picture is width x height pixels of 3 or 4 bytes: red, green, blue, and a fourth that is left
  * alone. Rows run from the top, pixels from the left, with nothing between rows.
@@ -17,8 +17,8 @@
  * always sets *given: to the number that goes with the refusal, or to 0.
  *
  * Stack. Writing needs about 508 KiB of it, reading a picture 303 KiB and reading votes 14 KiB, whatever the
- * picture's size (measured: docs/BENCH.md). Give threads that much. No state is shared: calls may run at the
- * same time where none writes to memory that another is lent.
+ * picture's size (measured, as of an older compiler: docs/BENCH.md). Give threads that much and some to spare.
+ * No state is shared: calls may run at the same time where none writes to memory that another is lent.
  *
  * Floats. Results are those of C's default floating-point environment: rounding to nearest, subnormals kept,
  * no traps. Link nothing that changes it, as -ffast-math may.
@@ -31,7 +31,7 @@
  *   - Expect any pixel to change, also one that stands for "no data".
  *
  * What is answered, and what is left in all lent memory, is proved for every input: see the promises in
- * crates/vaikelomu/src/lib.rt, and docs/TRUST.md for what that rests on. The proof has one NaN: that a refused
+ * crates/vaikelomu_c/src/lib.rt, and docs/TRUST.md for what that rests on. The proof has one NaN: that a refused
  * call leaves the bits of a NaN in the work area as they were is run, not proved.
  */
 #ifndef VAIKELOMU_H

@@ -1,6 +1,6 @@
-// The mark from C, for the archive and everyone who links the static library: writing a text into a picture, reading
-// it, and reading it from votes. Numbers and lent memory only; nothing is asked of the caller but that the memory is
-// there. `include/vaikelomu.h` says in words what is promised here.
+// The mark as C sees it, for the archive and everyone who links the static library: writing a text into a picture,
+// reading it, and reading it from votes. Numbers and lent memory only; nothing is asked of the caller but that the memory
+// is there. `include/vaikelomu.h` says in words what is promised here; `vaikelomu_c` exports these functions.
 #![tactic(auto)]
 
 ghost use Rattle.std.specs.Prelude.{◌≡◌};
@@ -21,8 +21,7 @@ const MINOR: u32 = 1;
 const PATCH: u32 = 0;
 
 // The version as one number, by which a host sees that header and archive belong together.
-#[unsafe(no_mangle)]
-pub extern "C" fn vaikelomu_version() -> u32
+pub fn vaikelomu_version() -> u32
     ensures { result ≡ version }
 {
     MAJOR << 16 | MINOR << 8 | PATCH
@@ -60,8 +59,7 @@ fn key_of(keyed: u8, key: &[u8; 32]) -> Key
 
 // Writes the text into the picture, plain where `locked` is 0, else under the key. The answer is 0, or the refusal's
 // number, with samples and work area as they were lent; `given` becomes the number given with it.
-#[unsafe(no_mangle)]
-pub extern "C" fn vaikelomu_write(
+pub fn vaikelomu_write(
     samples: &mut [u8],
     width: usize,
     height: usize,
@@ -110,8 +108,7 @@ fn tell(reading: Reading, text: &mut [u8; 32], length: &mut usize, given: &mut u
 
 // Reads the picture's text, with no key where `keyed` is 0, else with the key. The answer is 0, with the text, zeros
 // after it, and its length; or the refusal's number, with zeros for both, and `given` becomes the number given with it.
-#[unsafe(no_mangle)]
-pub extern "C" fn vaikelomu_read(
+pub fn vaikelomu_read(
     samples: &[u8],
     width: usize,
     height: usize,
@@ -138,8 +135,7 @@ pub extern "C" fn vaikelomu_read(
 }
 
 // The same from the votes of the picture's blocks.
-#[unsafe(no_mangle)]
-pub extern "C" fn vaikelomu_read_votes(
+pub fn vaikelomu_read_votes(
     votes: &[f32],
     keyed: u8,
     key: &[u8; 32],
@@ -158,8 +154,7 @@ pub extern "C" fn vaikelomu_read_votes(
 
 // The record that the votes decode to. The answer is 0, with the record; or the refusal's number, with zeros, and `given`
 // becomes the number given with it.
-#[unsafe(no_mangle)]
-pub extern "C" fn vaikelomu_record(votes: &[f32], bytes: &mut [u8; RECORD], given: &mut u64) -> u8
+pub fn vaikelomu_record(votes: &[f32], bytes: &mut [u8; RECORD], given: &mut u64) -> u8
     ensures answer { result ≡ code_of (record_reading votes.now).answer }
     ensures bytes { bytes.new ≡ (record_reading votes.now).bytes }
     ensures number { given.new ≡ given_for (record_reading votes.now).answer }

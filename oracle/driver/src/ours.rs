@@ -1,4 +1,4 @@
-//! Our functions, as the crates `comparison` and `vaikelomu` export them, each where an archive has it.
+//! Our functions, as the static libraries `comparison` and `vaikelomu` export them, each where an archive has it.
 //!
 //! A Rattle slice passes as a pointer and then a length.
 
