@@ -4,8 +4,9 @@ use Rattle.std.proofs.Common.{sym, ap, ◌∙◌, mul_assoc, mul_comm, arith}
 use Rattle.std.proofs.Math.Nat.{mul-le-mul_right}
 use Rattle.picture.specs.Sizes.{Sized, plane_size}
 use Rattle.picture.specs.declared.Picture.{Picture}
-use Rattle.admission.specs.Admission.{room_of}
-use Rattle.admission.specs.Admitted.{Admitted}
+use Rattle.refusal.specs.declared.Answer.TheVariants.{Done}
+use Rattle.admission.specs.Admission.{room_of, read_admission}
+use Rattle.admission.specs.Admitted.{Admitted, read-admitted}
 
 module _ (parts : ℕ) (p : Picture) (samples : List ℕ) (work : ℕ) (a : Admitted parts p (length samples) work) where
   pub admitted-sized : 0 < p.width → 0 < p.height → Sized p.width p.height p.channels samples
@@ -27,3 +28,10 @@ module _ (parts : ℕ) (p : Picture) (samples : List ℕ) (work : ℕ) (a : Admi
   pub admitted-room : 1 ≤ parts → plane_size ≤ work
   unfolding room_of
   admitted-room h = omega (arith, a.room, mul-le-mul_right (plane_size + p.width * p.height) h)
+
+-- a picture that is admitted for reading
+pub read_ready : (p : Picture) (samples : List ℕ) (work : ℕ) → read_admission p (length samples) work ≡ Done
+    → Sized p.width p.height p.channels samples × (plane_size ≤ work)
+read_ready p samples work e =
+    let may = read-admitted p (length samples) work e in
+    (admitted-sized 1 p samples work may.2 may.0 may.1, admitted-room 1 p samples work may.2 (omega arith))

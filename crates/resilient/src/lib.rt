@@ -38,6 +38,7 @@ pub fn write(
 // The text that the picture carries, read with a key or with none. Refused, with the work area as it was lent: a zero
 // side, and 4 to 7. Refused behind these is what `parse_record` refuses; then, and where the
 // text is read, the work area ends as zeros.
+#[tactic(auto, using(crate::specs::Sized::read_ready), unfolding(crate::specs::Resilient::reading_of, crate::specs::Resilient::reading_from, crate::specs::Resilient::if_done))]
 pub fn read(samples: &[u8], picture: Picture, key: Key, work: &mut [f32]) -> Reading
     ensures reading { result ≡ (reading_of key picture samples.now work.old).reading }
     ensures work { work.new ≡ (reading_of key picture samples.now work.old).work }
