@@ -18,7 +18,7 @@ use Rattle.float_laws.specs.Values.{Within, Holds}
 use Rattle.float_laws.specs.Bounds.{holds-whole, round-within, within_more, add-within, sub_within, mul-within}
 use Rattle.float_laws.specs.Floors.{floor-bound, ceil-bound}
 use Rattle.resample_window.specs.declared.Window.{Window}
-use Rattle.resample_window.specs.Window.{scale_of, center_of, support_of, unsummed, with_sum, empty, is_side, has_window, window_of}
+use Rattle.resample_window.specs.Window.{scale_of, center_of, support_of, unsummed, with_sum, empty, is_side, has_window, window_of, Small}
 use Rattle.picture.specs.Sizes.{longest_side}
 
 -- ---- a window is that of an output sample that is there, or the one without a number
@@ -94,16 +94,21 @@ scale-within src dst r B C D H h =
 pub longest-times : (src dst : ℕ) → src ≤ longest_side → 0 < dst → src ≤ longest_side * dst
 longest-times src dst B C = le_trans B (le_trans (le_of_eq (sym (mul-one longest_side))) (mul-le-mul (le_refl longest_side) C))
 
+-- of a scale and another bounded float the larger
+pub larger-within : (src dst : ℕ) (t : Float) → src ≤ longest_side → 0 < dst → dst ≤ longest_side → Within t longest_side 1
+    → Within (larger (scale_of src dst) t) longest_side 1
+larger-within src dst t B C D k =
+    most-either (λ (z : Float). Within z longest_side 1) (scale_of src dst) t
+    (scale-within src dst longest_side B C D (holds-whole binary64 longest_side (lit≤ tt)) (longest-times src dst B C)) k
+
 pub support-within : (src dst : ℕ) → src ≤ longest_side → 0 < dst → dst ≤ longest_side → Within (support_of src dst) longest_side 1
 unfolding support_of
-support-within src dst B C D =
-    most-either (λ (z : Float). Within z longest_side 1) (scale_of src dst) (two_to 0)
-    (scale-within src dst longest_side B C D (holds-whole binary64 longest_side (lit≤ tt)) (longest-times src dst B C)) (lit≤ tt)
+support-within src dst B C D = larger-within src dst (two_to 0) B C D (lit≤ tt)
 
--- (i + 0.5) * scale - 0.5: i + 0.5 is at most dst, and the scale at most r = src / dst + 1, cut to a whole number, so the product is at most src + dst
-pub center-within : (src dst i : ℕ) → src ≤ longest_side → 0 < dst → dst ≤ longest_side → i < dst → Within (center_of src dst i) (2 ^ 14 + 1) 1
-unfolding center_of
-center-within src dst i B C D I =
+-- (i + h) * scale - 0.5, for h up to 1: i + h is at most dst, and the scale at most r = src / dst + 1, cut to a whole number, so the product is at most src + dst
+pub product-within : (src dst i : ℕ) (h : Float) → src ≤ longest_side → 0 < dst → dst ≤ longest_side → i < dst → Within h 1 1
+    → Within (sub binary64 (mul binary64 (add binary64 (of_int binary64 (pos i)) h) (scale_of src dst)) half) (2 ^ 14 + 1) 1
+product-within src dst i h B C D I H =
     let r = src / dst + 1 in
     let e : r * dst ≡ src / dst * dst + dst = add-mul (src / dst) 1 dst ∙ ap (λ (z : ℕ). src / dst * dst + z) (one-mul dst) in
     let over : src < src / dst * dst + dst = lt-div-mul-add C in
@@ -111,10 +116,10 @@ center-within src dst i B C D I =
     let q : src / dst ≤ src = div-le_self src dst in
     let k : i + 1 ≤ dst = omega arith in
     let small : (n : ℕ) → n ≤ 2 ^ 15 → Holds binary64 n 1 = (λ n l. holds-whole binary64 n (le_trans l (lit≤ tt))) in
-    let x = add binary64 (of_int binary64 (pos i)) half in
+    let x = add binary64 (of_int binary64 (pos i)) h in
     let a : Within x (i + 1) 1 =
-    add-within binary64 (of_int binary64 (pos i)) half i 1 1 (zero-lt-suc 0) (small (i + 1) (omega arith))
-    (value-within (of_int binary64 (pos i)) i i (le_refl i) (whole-value i (omega arith))) (lit≤ tt) in
+    add-within binary64 (of_int binary64 (pos i)) h i 1 1 (zero-lt-suc 0) (small (i + 1) (omega arith))
+    (value-within (of_int binary64 (pos i)) i i (le_refl i) (whole-value i (omega arith))) H in
     let b : Within x dst 1 = within_more x (i + 1) 1 dst 1 (zero-lt-suc 0) a (mul-le-mul_right 1 k) in
     let f : dst * r ≤ 2 ^ 14 = le_trans (le_of_eq (mul_comm dst r)) (omega arith) in
     let m : Within (mul binary64 x (scale_of src dst)) (dst * r) 1 =
@@ -122,6 +127,11 @@ center-within src dst i B C D I =
     (scale-within src dst r B C D (small r (omega arith)) (omega arith)) in
     sub_within binary64 (mul binary64 x (scale_of src dst)) half (2 ^ 14) 1 1 (zero-lt-suc 0) (holds-whole binary64 (2 ^ 14 + 1) (lit≤ tt))
     (within_more (mul binary64 x (scale_of src dst)) (dst * r) 1 (2 ^ 14) 1 (zero-lt-suc 0) m (mul-le-mul_right 1 f)) (lit≤ tt)
+
+-- (i + 0.5) * scale - 0.5
+pub center-within : (src dst i : ℕ) → src ≤ longest_side → 0 < dst → dst ≤ longest_side → i < dst → Within (center_of src dst i) (2 ^ 14 + 1) 1
+unfolding center_of
+center-within src dst i B C D I = product-within src dst i half B C D I (lit≤ tt)
 
 -- ---- its first and last number
 
@@ -142,6 +152,13 @@ last-span : (c s : Float) → Within c (2 ^ 14 + 1) 1 → Within s longest_side 
 last-span c s h k =
     floor-bound binary64 63 (add binary64 c s) span (add-fits binary64 c s)
     (add-within binary64 c s (2 ^ 14 + 1) longest_side 1 (zero-lt-suc 0) (holds-whole binary64 span (lit≤ tt)) h k) (lit< tt)
+
+pub small-span : (w : Window) (c s : Float) → w ≡ unsummed c s → Within c (2 ^ 14 + 1) 1 → Within s longest_side 1 → Small w
+small-span w c s e h k =
+    rw e (
+      lt_of_le_of_lt (le_trans (mag-le (unsummed c s).first) (first-span c s h k)) (lit< tt),
+      lt_of_le_of_lt (le_trans (mag-le (unsummed c s).last) (last-span c s h k)) (lit< tt),
+    )
 
 pub first-within : (src dst i : ℕ) → unsigned_abs (window_of src dst i).first ≤ span
 first-within src dst i =

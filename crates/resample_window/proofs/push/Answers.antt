@@ -1,8 +1,10 @@
 -- After k numbers the taps among them stand from place n on.
-use Rattle.std.proofs.Common.{◌≡◌, ℕ, ◌+◌, ◌<◌, [], ◌∷◌, length, get_or, ℤ, pos, ◌+ℤ◌, sym, refl, ap, ◌∙◌, add-zero, arith, length-append, length-set, w64, to_z, of_z}
+use Rattle.std.proofs.Common.{◌≡◌, ℕ, ◌+◌, ◌<◌, [], ◌∷◌, length, get_or, ℤ, pos, ◌+ℤ◌, sym, refl, ap, ◌∙◌, add-zero, arith, length-append, length-set, w64, to_z, of_z, Float}
 use Rattle.std.proofs.Math.Seq.{paste-zero}
 use Rattle.std.proofs.lemmas.Int.{to_z-of_z}
+use Rattle.std.specs.Int.Signed.{mag}
 use Rattle.resample_window.specs.declared.Window.{Window}
+use Rattle.resample_window.specs.declared.Weight.{Weight}
 use Rattle.resample_window.specs.declared.Weight.TheVariants.{Of}
 use Rattle.resample_window.specs.Window.{Tap, Small, numbers, weight_of, clamp_of, taps_to, taps_of, tap_sources, tap_weights}
 use Rattle.resample_window.specs.Taps.{laid_more}
@@ -17,20 +19,16 @@ number : (w : Window) (n k : ℕ) (j : ℤ) → Small w → n ≡ numbers (to_z 
 number w n k j small e h is = passed j w.first k small.0 (small-k w n k small (counted w n small e) h) is
 
 -- the weight of the turn
-weight-of : (c : goal.After-clamp) → weight_of c.args.w (c.args.w.first +ℤ pos c.loop-k.k) ≡ Of c.in-Of.q
-weight-of c =
-    let w = c.args.w in
-    let j = number w c.count-count.result c.loop-k.k c.nth-j.result c.requires.0 c.count-count.ensures c.loop-k-test.true c.nth-j.ensures in
-    sym (c.weight.ensures ∙ ap (weight_of w) j) ∙ c.in-Of.is
+weight-of : (w : Window) (n k : ℕ) (j : ℤ) (v : Weight) (q : Float) → Small w → n ≡ numbers (to_z w64 (of_z w64 w.first)) (to_z w64 (of_z w64 w.last))
+    → k < n → j ≡ to_z w64 (of_z w64 w.first) +ℤ pos k → v ≡ weight_of w (to_z w64 (of_z w64 j)) → v ≡ Of q → weight_of w (w.first +ℤ pos k) ≡ Of q
+weight-of w n k j v q small e h is weighed of = sym (weighed ∙ ap (weight_of w) (number w n k j small e h is)) ∙ of
 
 -- there is room for the tap of the turn
-room : (c : goal.After-clamp) → c.loop-k.at < length c.args.index.now
-room c =
-    let w = c.args.w in
-    let k = c.loop-k.k in
-    let n = counted w c.count-count.result c.requires.0 c.count-count.ensures in
-    let l : k < numbers w.first w.last = omega arith in
-    omega (arith, tap-room w c.args.src k (numbers w.first w.last) c.in-Of.q l (weight-of c))
+room : (w : Window) (src n k : ℕ) (j : ℤ) (v : Weight) (q : Float) → Small w → n ≡ numbers (to_z w64 (of_z w64 w.first)) (to_z w64 (of_z w64 w.last))
+    → k < n → j ≡ to_z w64 (of_z w64 w.first) +ℤ pos k → v ≡ weight_of w (to_z w64 (of_z w64 j)) → v ≡ Of q
+    → length (taps_to w src k) < length (taps_of w src)
+room w src n k j v q small e h is weighed of =
+    tap-room w src k (numbers w.first w.last) q (omega (arith, counted w n small e)) (weight-of w n k j v q small e h is weighed of)
 
 pub loop-k-init : goal.loop-k-init
 unfolding taps_to
@@ -49,7 +47,7 @@ nth-j-requires c =
     let w = c.args.w in
     let small = c.requires.0 in
     let n = counted w c.count-count.result small c.count-count.ensures in
-    (rw (to_z-of_z w64 w.first (small-fits w.first small.0)) small.0, small-k w c.count-count.result c.loop-k.k small n c.loop-k-test.true)
+    (omega (arith, ap mag (to_z-of_z w64 w.first (small-fits w.first small.0))), small-k w c.count-count.result c.loop-k.k small n c.loop-k-test.true)
 
 pub loop-k-preserved-in_default : goal.loop-k-preserved-in_default
 loop-k-preserved-in_default c =
@@ -72,24 +70,31 @@ overflow_cast-index c =
     }
 
 pub offset_bounds-index-at : goal.offset_bounds-index-at
-offset_bounds-index-at c = record { fits = omega (arith, room c) }
+offset_bounds-index-at c = record {
+  fits = omega (arith, room c.args.w c.args.src _ _ _ _ _ c.requires.0 c.count-count.ensures c.loop-k-test.true c.nth-j.ensures c.weight.ensures c.in-Of.is);
+}
 
 pub bounds-index-at : goal.bounds-index-at
-bounds-index-at c = omega (arith, room c)
+bounds-index-at c = omega (arith, room c.args.w c.args.src _ _ _ _ _ c.requires.0 c.count-count.ensures c.loop-k-test.true c.nth-j.ensures c.weight.ensures c.in-Of.is)
 
 pub offset_bounds-weight-at : goal.offset_bounds-weight-at
-offset_bounds-weight-at c = record { fits = omega (arith, room c) }
+offset_bounds-weight-at c = record {
+  fits = omega (arith, room c.args.w c.args.src _ _ _ _ _ c.requires.0 c.count-count.ensures c.loop-k-test.true c.nth-j.ensures c.weight.ensures c.in-Of.is);
+}
 
 pub bounds-weight-at : goal.bounds-weight-at
-bounds-weight-at c = omega (arith, room c)
+bounds-weight-at c = omega (arith, room c.args.w c.args.src _ _ _ _ _ c.requires.0 c.count-count.ensures c.loop-k-test.true c.nth-j.ensures c.weight.ensures c.in-Of.is)
 
 pub overflow_add-at : goal.overflow_add-at
-overflow_add-at c = record { fits = omega (arith, room c) }
+overflow_add-at c = record {
+  fits = omega (arith, room c.args.w c.args.src _ _ _ _ _ c.requires.0 c.count-count.ensures c.loop-k-test.true c.nth-j.ensures c.weight.ensures c.in-Of.is);
+}
 
 pub loop-k-preserved : goal.loop-k-preserved
 loop-k-preserved c =
     let a = c.args in
     let at = c.loop-k in
+    let is-weight = weight-of a.w _ _ _ _ _ c.requires.0 c.count-count.ensures c.loop-k-test.true c.nth-j.ensures c.weight.ensures c.in-Of.is in
     let w = a.w in
     let m = length (taps_to w a.src at.k) in
     let all = numbers w.first w.last in
@@ -98,15 +103,15 @@ loop-k-preserved c =
     let k : at.k < all = omega arith in
     let j = number w c.count-count.result at.k c.nth-j.result c.requires.0 c.count-count.ensures c.loop-k-test.true c.nth-j.ensures in
     let one : length (taps_to w a.src (at.k + 1)) ≡ m + 1 =
-    ap length (taps-with w a.src at.k t.weight (weight-of c)) ∙ length-append (taps_to w a.src at.k) (t ∷ []) in
-    let is : get_or (taps_of w a.src) m t ≡ t = tap-at w a.src at.k all t.weight t k (weight-of c) in
-    let less : m < length (taps_of w a.src) = tap-room w a.src at.k all t.weight k (weight-of c) in
+    ap length (taps-with w a.src at.k t.weight is-weight) ∙ length-append (taps_to w a.src at.k) (t ∷ []) in
+    let is : get_or (taps_of w a.src) m t ≡ t = tap-at w a.src at.k all t.weight t k is-weight in
+    let less : m < length (taps_of w a.src) = tap-room w a.src at.k all t.weight k is-weight in
     let from : c.clamp.result ≡ t.from = c.clamp.ensures ∙ ap (clamp_of a.src) j in (
       omega arith,
       omega arith,
       rw (one, at.invariant.1, from)
-          (laid_more (λ t. t.from) a.index.now a.n (taps_of w a.src) m t at.index (omega (arith, room c)) less is at.invariant.2),
-      rw (one, at.invariant.1) (laid_more (λ t. t.weight) a.weight.now a.n (taps_of w a.src) m t at.weight (omega (arith, room c)) less is
+          (laid_more (λ t. t.from) a.index.now a.n (taps_of w a.src) m t at.index (omega (arith, less)) less is at.invariant.2),
+      rw (one, at.invariant.1) (laid_more (λ t. t.weight) a.weight.now a.n (taps_of w a.src) m t at.weight (omega (arith, less)) less is
           at.invariant.3),
       length-set at.index at.at c.clamp.result ∙ at.invariant.4,
       length-set at.weight at.at t.weight ∙ at.invariant.5,

@@ -1,22 +1,19 @@
 -- Sides and numbers are exact as floats; centre and support are the definition's, and the window's numbers are small
 -- enough to be summed over.
-use Rattle.std.proofs.Common.{◌≡◌, sym, ap, ◌∙◌, subst}
+use Rattle.std.proofs.Common.{◌≡◌, sym, ap, ◌∙◌, lit≤}
 use Rattle.std.specs.Float.Ieee.{of_bits}
-use Rattle.resample_window.specs.Window.{scale_of, center_of, support_of, unsummed, with_sum, window_of, Small}
-use Rattle.resample_window.specs.Range.{window-sized, first_small, last-small}
+use Rattle.resample_window.specs.Window.{scale_of, center_of, support_of, unsummed, with_sum}
+use Rattle.resample_window.specs.Range.{window-sized, small-span, product-within, larger-within}
 use Rattle.resample_window.proofs.sample_window.Goals as goal
 
--- as it stands in the window
+-- whatever the centre and the support are, as far as they are bounded
 pub summed-requires : goal.summed-requires
-unfolding center_of scale_of support_of of_bits
+unfolding scale_of of_bits
 summed-requires c =
     let a = c.args in
     let p = c.requires in
-    let is : c.unsummed.result ≡ unsummed (center_of a.src a.dst a.i) (support_of a.src a.dst) =
-    c.unsummed.ensures ∙ ap (unsummed (center_of a.src a.dst a.i)) c.max_f64.ensures in
-    let e = window-sized a.src a.dst a.i p.0 p.1 p.2 p.3 p.4 in
-    let w : Small (window_of a.src a.dst a.i) = (first_small a.src a.dst a.i, last-small a.src a.dst a.i) in
-    subst Small (sym is) (subst Small e w)
+    small-span c.unsummed.result _ _ c.unsummed.ensures (product-within a.src a.dst a.i _ p.1 p.2 p.3 p.4 (lit≤ tt))
+    (rw c.max_f64.ensures (larger-within a.src a.dst _ p.1 p.2 p.3 (lit≤ tt)))
 
 pub returns : goal.returns
 unfolding center_of scale_of support_of of_bits

@@ -23,17 +23,6 @@ overflow_cast-offsets c =
     let a = c.args in
     record { fits = omega (arith, c.loop-i.invariant.1, start-rises a.src a.dst c.loop-i.i a.dst c.loop-i.invariant.0) }
 
-pub push-n-requires : goal.push-n-requires
-push-n-requires c =
-    let a = c.args in
-    let at = c.loop-i in
-    let w = c.new.result in
-    let e : w ≡ window_of a.src a.dst at.i = c.new.ensures in
-    let room : at.n + length (taps_of w a.src) ≤ length at.index =
-    rw (taps-of w a.src a.dst at.i e)
-    (omega (arith, at.invariant.1, start-more a.src a.dst at.i, start-rises a.src a.dst (at.i + 1) a.dst (omega arith))) in
-    (window-small w a.src a.dst at.i e, c.requires.0, c.requires.1, room, at.invariant.7 ∙ (c.requires.5 ∙ sym at.invariant.6))
-
 pub loop-i-preserved : goal.loop-i-preserved
 loop-i-preserved c =
     let a = c.args in
@@ -57,6 +46,17 @@ loop-i-preserved c =
       ap length from ∙ all-length (λ t. t.from) a.src a.dst (at.i + 1) a.index.now room,
       ap length with ∙ all-length (λ t. t.weight) a.src a.dst (at.i + 1) a.weight.now (omega arith),
     )
+
+pub push-n-requires : goal.push-n-requires
+push-n-requires c =
+    let a = c.args in
+    let at = c.loop-i in
+    let w = c.new.result in
+    let e : w ≡ window_of a.src a.dst at.i = c.new.ensures in
+    let room : at.n + length (taps_of w a.src) ≤ length at.index =
+    rw (taps-of w a.src a.dst at.i e)
+    (omega (arith, at.invariant.1, start-more a.src a.dst at.i, start-rises a.src a.dst (at.i + 1) a.dst (omega arith))) in
+    (window-small w a.src a.dst at.i e, c.requires.0, c.requires.1, room, at.invariant.7 ∙ (c.requires.5 ∙ sym at.invariant.6))
 
 pub returns-clause-bounds : goal.returns-clause-bounds
 returns-clause-bounds c =

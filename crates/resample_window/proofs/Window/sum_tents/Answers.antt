@@ -3,7 +3,7 @@ use Rattle.std.proofs.Common.{◌≡◌, pos, ◌+ℤ◌, refl, ap, ◌∙◌, a
 use Rattle.std.specs.Float.Ieee.{of_bits}
 use Rattle.std.proofs.lemmas.Int.{to_z-of_z}
 use Rattle.resample_window.specs.Window.{tent_sum, tent_of}
-use Rattle.resample_window.specs.Signed.{small-fits}
+use Rattle.resample_window.specs.Signed.{small-fits, numbers-small}
 use Rattle.resample_window.specs.Steps.{passed, sum-with, sum-without}
 use Rattle.resample_window.proofs.Counted.{counted, small-k}
 use Rattle.resample_window.proofs.Window.sum_tents.Goals as goal
@@ -18,7 +18,7 @@ nth-requires c =
     let w = c.args.self in
     let small = c.requires in
     let n = counted w c.count-count.result small c.count-count.ensures in
-    (rw (to_z-of_z w64 w.first (small-fits w.first small.0)) small.0, small-k w c.count-count.result c.loop-k.k small n c.loop-k-test.true)
+    (rw (to_z-of_z w64 w.first (small-fits w.first small.0)) small.0, omega (arith, n, numbers-small w.first w.last small.0 small.1))
 
 pub loop-k-preserved : goal.loop-k-preserved
 unfolding of_bits
