@@ -1,20 +1,14 @@
 -- After x turns the first 4 x places hold the luma of the first x pixels of each row.
-use mathlib.Core.Path.{◌≡◌, refl}
-use Prim.Native.Nat.{◌+◌, ◌-◌, ◌*◌, ◌≤◌, ◌<◌}
-use native.Mathlib.Omega.{arith}
-use lib.ListN.{length, length-set}
-use Rattle.seq.specs.Tab.{filled_none}
+use Rattle.std.proofs.Common.{◌≡◌, ◌-◌, ◌*◌, ◌≤◌, length}
 use Rattle.seq.specs.Lists.{filled}
 use Rattle.resample_four.specs.Four.{beside, of_four}
-use Rattle.resample_four.specs.Laws.{filled-four}
 use Rattle.resample.specs.Samples.{luma_at}
-use Rattle.resample.specs.Pixels.{pixel-fits}
-use borrow.Author.Rules.{rules}
 use Rattle.resample_four.proofs.luma_four.Given as goal
 
 abbrev pub invariant-loop-x : goal.invariant-loop-x
 invariant-loop-x l =
-    (l.x ≤ l.width) × (length l.line ≡ length l.initial.line) × (l.line ≡ filled (beside (λ l. luma_at l.channels (of_four l.a l.b l.c l.d l))) (4 * l.x) l.initial.line)
+    (l.x ≤ l.width) × (length l.line ≡ length l.initial.line)
+    × (l.line ≡ filled (beside (λ r. luma_at l.channels (of_four l.a l.b l.c l.d r))) (4 * l.x) l.initial.line)
 
 abbrev pub decreases-loop-x : goal.decreases-loop-x
 decreases-loop-x l = l.width - l.x

@@ -1,19 +1,10 @@
 -- Before place n each of the four sums is that of the taps of sample x that stand before it, over its own row; `one_more` adds
 -- one, and `from-inside` keeps its reads in the line.
-use mathlib.Core.Path.{◌≡◌, refl, ◌∙◌}
-use Prim.Native.Nat.{ℕ, ◌+◌, ◌-◌, ◌*◌, ◌≤◌, ◌<◌}
-use native.Mathlib.Omega.{arith}
-use lib.ListN.{length, get_or}
-use lib.Ieee.{Float, nan, binary32, add, mul, neg, of_bits}
-use Rattle.seq.specs.Lists.{tab}
-use Rattle.float.specs.Base.{zero-}
+use mathlib.Core.Path.{◌≡◌}
+use Prim.Native.Nat.{◌+◌, ◌-◌, ◌≤◌}
 use Rattle.resample_window.specs.Window.{start}
-use Rattle.resample_window.specs.Taps.{start-rises}
-use Rattle.resample.specs.Resampled.{across}
-use Rattle.resample.specs.Tables.{Tables}
-use Rattle.resample.specs.Taps.{so_far, offset_at, place-fits, from-inside, none_yet, one_more, all_there}
+use Rattle.resample.specs.Taps.{so_far}
 use Rattle.resample_four.specs.Four.{lane}
-use borrow.Author.Rules.{rules}
 use Rattle.resample_four.proofs.values_across.Given as goal
 
 abbrev pub invariant-loop-n : goal.invariant-loop-n
