@@ -9,7 +9,8 @@ use Rattle.refusal.specs.declared.Answer.{Answer}
 use Rattle.record.specs.declared.Lock.{Lock}
 use Rattle.picture.specs.declared.Picture.{Picture}
 use Rattle.resilient.specs.Resilient.{Written, written_of}
-use Rattle.resilient.proofs.write as write
+use Rattle.resilient.specs.contracts.write as write
+use Rattle.resilient.proofs.write as proved
 
 module _ (κs : Lfts 3) (samples : Bor (List ℕ)) (picture : Picture) (text : Bor (List ℕ)) (lock : Lock) (work : Bor (List Float)) where
   abbrev arguments : Args write.signature κs
@@ -22,5 +23,5 @@ module _ (κs : Lfts 3) (samples : Bor (List ℕ)) (picture : Picture) (text : B
   write-outcome = refl
 
   pub write-allows : (r : Answer) (s : List ℕ) (w : List Float)
-      → Allows write.ended write.Reads.Post κs arguments (r, (s, (tt, (tt, (tt, (w, tt)))))) ≡ ((r ≡ the.answer) × ((s ≡ the.samples) × (w ≡ the.work)))
+      → Allows write.ended proved.Reads.Post κs arguments (r, (s, (tt, (tt, (tt, (w, tt)))))) ≡ ((r ≡ the.answer) × ((s ≡ the.samples) × (w ≡ the.work)))
   write-allows r s w = refl

@@ -1,19 +1,20 @@
 -- Crate `refusal`: each public function's promise determines its outcome.
 use Rattle.determined.specs.One.{one}
 use Rattle.determined.specs.Determined.{Determined}
-use Rattle.refusal.proofs as refusal
+use Rattle.refusal.specs.contracts as refusal
+use Rattle.refusal.proofs as proved
 
-pub number-one : Determined refusal.number.ended refusal.number.Reads.Post
+pub number-one : Determined refusal.number.ended proved.number.Reads.Post
 number-one κs a x y p q i = (one p q i, x.1)
 
-pub given-one : Determined refusal.given.ended refusal.given.Reads.Post
+pub given-one : Determined refusal.given.ended proved.given.Reads.Post
 given-one κs a x y p q i = (one p q i, x.1)
 
-pub code_one : Determined refusal.code.ended refusal.code.Reads.Post
+pub code_one : Determined refusal.code.ended proved.code.Reads.Post
 code_one κs a x y p q i = (one p q i, x.1)
 
-pub given-for-one : Determined refusal.given_for.ended refusal.given_for.Reads.Post
+pub given-for-one : Determined refusal.given_for.ended proved.given_for.Reads.Post
 given-for-one κs a x y p q i = (one p q i, x.1)
 
-pub first_one : Determined refusal.first.ended refusal.first.Reads.Post
+pub first_one : Determined refusal.first.ended proved.first.Reads.Post
 first_one κs a x y p q i = (one p q i, x.1)

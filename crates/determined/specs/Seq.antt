@@ -1,22 +1,23 @@
 -- Crate `seq`: each public function's promise determines its outcome.
 use Rattle.determined.specs.One.{one}
 use Rattle.determined.specs.Determined.{Determined}
-use Rattle.seq.proofs as seq
+use Rattle.seq.specs.contracts as seq
+use Rattle.seq.proofs as proved
 
-pub zero-floats-one : Determined seq.zero_floats.ended seq.zero_floats.Reads.Post
+pub zero-floats-one : Determined seq.zero_floats.ended proved.zero_floats.Reads.Post
 zero-floats-one κs a x y p q i = (tt, (one p q i, tt))
 
-pub copy-bytes-one : Determined seq.copy_bytes.ended seq.copy_bytes.Reads.Post
+pub copy-bytes-one : Determined seq.copy_bytes.ended proved.copy_bytes.Reads.Post
 copy-bytes-one κs a x y p q i = (tt, (tt, (one p q i, (tt, tt))))
 
-pub copy-floats-one : Determined seq.copy_floats.ended seq.copy_floats.Reads.Post
+pub copy-floats-one : Determined seq.copy_floats.ended proved.copy_floats.Reads.Post
 copy-floats-one κs a x y p q i = (tt, (tt, (one p q i, (tt, tt))))
 
-pub little-endian-one : Determined seq.little_endian.ended seq.little_endian.Reads.Post
+pub little-endian-one : Determined seq.little_endian.ended proved.little_endian.Reads.Post
 little-endian-one κs a x y p q i = (one p q i, x.1)
 
-pub from-big-endian-one : Determined seq.from_big_endian.ended seq.from_big_endian.Reads.Post
+pub from-big-endian-one : Determined seq.from_big_endian.ended proved.from_big_endian.Reads.Post
 from-big-endian-one κs a x y p q i = (one p q i, x.1)
 
-pub big-endian-one : Determined seq.big_endian.ended seq.big_endian.Reads.Post
+pub big-endian-one : Determined seq.big_endian.ended proved.big_endian.Reads.Post
 big-endian-one κs a x y p q i = (one p q i, x.1)

@@ -1,9 +1,10 @@
 -- Crate `vaikelomu`: each public function's promise determines its outcome.
 use Rattle.determined.specs.One.{one}
 use Rattle.determined.specs.Determined.{Determined}
-use Rattle.vaikelomu.proofs as vaikelomu
+use Rattle.vaikelomu.specs.contracts as vaikelomu
+use Rattle.vaikelomu.proofs as proved
 
-pub vaikelomu-write-one : Determined vaikelomu.vaikelomu_write.ended vaikelomu.vaikelomu_write.Reads.Post
+pub vaikelomu-write-one : Determined vaikelomu.vaikelomu_write.ended proved.vaikelomu_write.Reads.Post
 vaikelomu-write-one κs a x y p q i = (
   one p.0 q.0 i,
   (
@@ -13,7 +14,7 @@ vaikelomu-write-one κs a x y p q i = (
   ),
 )
 
-pub vaikelomu-read-one : Determined vaikelomu.vaikelomu_read.ended vaikelomu.vaikelomu_read.Reads.Post
+pub vaikelomu-read-one : Determined vaikelomu.vaikelomu_read.ended proved.vaikelomu_read.Reads.Post
 vaikelomu-read-one κs a x y p q i = (
   one p.0 q.0 i,
   (
@@ -40,12 +41,12 @@ vaikelomu-read-one κs a x y p q i = (
   ),
 )
 
-pub vaikelomu-read-votes-one : Determined vaikelomu.vaikelomu_read_votes.ended vaikelomu.vaikelomu_read_votes.Reads.Post
+pub vaikelomu-read-votes-one : Determined vaikelomu.vaikelomu_read_votes.ended proved.vaikelomu_read_votes.Reads.Post
 vaikelomu-read-votes-one κs a x y p q i =
     (one p.0 q.0 i, (tt, (tt, (tt, (one p.1.0 q.1.0 i, (one p.1.1.0 q.1.1.0 i, (one p.1.1.1 q.1.1.1 i, tt)))))))
 
-pub vaikelomu-record-one : Determined vaikelomu.vaikelomu_record.ended vaikelomu.vaikelomu_record.Reads.Post
+pub vaikelomu-record-one : Determined vaikelomu.vaikelomu_record.ended proved.vaikelomu_record.Reads.Post
 vaikelomu-record-one κs a x y p q i = (one p.0 q.0 i, (tt, (one p.1.0 q.1.0 i, (one p.1.1 q.1.1 i, tt))))
 
-pub vaikelomu-version-one : Determined vaikelomu.vaikelomu_version.ended vaikelomu.vaikelomu_version.Reads.Post
+pub vaikelomu-version-one : Determined vaikelomu.vaikelomu_version.ended proved.vaikelomu_version.Reads.Post
 vaikelomu-version-one κs a x y p q i = (one p q i, x.1)
