@@ -2,7 +2,7 @@
 -- work area, and its promise an equation for each.
 use Rattle.std.specs.Prelude.{◌≡◌, refl, List, ℕ, Float}
 use contract.Lifetimes.{Lfts}
-use Rattle.std.specs.Borrow.{Bor}
+use Rattle.std.specs.Borrow.{Bor, MutBor}
 use denote.Triple.Entry.{Args}
 use Rattle.determined.specs.Determined.{Ending, Allows}
 use Rattle.refusal.specs.declared.Answer.{Answer}
@@ -12,7 +12,7 @@ use Rattle.resilient.specs.Resilient.{Written, written_of}
 use Rattle.resilient.specs.contracts.write as write
 use Rattle.resilient.proofs.write as proved
 
-module _ (κs : Lfts 3) (samples : Bor (List ℕ)) (picture : Picture) (text : Bor (List ℕ)) (lock : Lock) (work : Bor (List Float)) where
+module _ (κs : Lfts 3) (samples : MutBor (List ℕ)) (picture : Picture) (text : Bor (List ℕ)) (lock : Lock) (work : MutBor (List Float)) where
   abbrev arguments : Args write.signature κs
   arguments = (samples, (picture, (text, (lock, (work, tt)))))
 
