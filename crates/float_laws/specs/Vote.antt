@@ -19,11 +19,11 @@ use Rattle.float_laws.specs.Values.{Within, Holds}
 use Rattle.float_laws.specs.Bounds.{holds-whole, holds-scaled, round-within}
 use Rattle.float.specs.Rounding.{round-shape}
 
-abbrev pub one : Float
-one = two_to 0
+abbrev pub one_exact : Float
+one_exact = two_to 0
 
-abbrev pub four : Float
-four = two_to 2
+abbrev pub four_exact : Float
+four_exact = two_to 2
 
 -- not negative, with the sign clear, and at most a / c
 abbrev pub Upto : Float → ℕ → ℕ → Type 0
@@ -114,11 +114,11 @@ frac-upto f r h =
 
 -- ---- 1 - r
 
-one-is : (c : ℕ) → HasValue one false c c
+one-is : (c : ℕ) → HasValue one_exact false c c
 one-is c = (refl, one-mul c ∙ sym (mul-one c))
 
-one-minus : (f : Format) (m : ℕ) (e : ℤ) → m * up e ≤ down e → sub f one (fin false m e) ≡ round f false (down e - m * up e) (down e)
-one-minus f m e h = sub_at f one (fin false m e) false false (down e) (m * up e) (down e) (down_pos e) (one-is (down e)) (refl, refl)
+one-minus : (f : Format) (m : ℕ) (e : ℤ) → m * up e ≤ down e → sub f one_exact (fin false m e) ≡ round f false (down e - m * up e) (down e)
+one-minus f m e h = sub_at f one_exact (fin false m e) false false (down e) (m * up e) (down e) (down_pos e) (one-is (down e)) (refl, refl)
     ∙ minus-at-most f (down e) (m * up e) (down e) h
 
 at_most_one : (a c : ℕ) → a * 1 ≤ 1 * c → a ≤ c
@@ -180,7 +180,7 @@ half-holds binary64 = holds-scaled binary64 1 1 (lit≤ tt) (lit≤ tt)
 twice-le : (a c : ℕ) → c < a * 2 → (c - a) * 2 ≤ 1 * c
 twice-le a c h = omega arith
 
-pub halves : (f : Format) (r : Float) → Upto r 1 1 → Upto (smaller r (sub f one r)) 1 2
+pub halves : (f : Format) (r : Float) → Upto r 1 1 → Upto (smaller r (sub f one_exact r)) 1 2
 halves f nan h = absurd h
 halves f (inf s) h = absurd h
 halves f (fin true m e) h = absurd (true≢false h.0)
@@ -188,14 +188,14 @@ halves f (fin false m e) h =
     let a = m * up e in
     let c = down e in
     let l : a ≤ c = at_most_one a c h.1 in
-    let q : sub f one (fin false m e) ≡ round f false (c - a) c = one-minus f m e l in
-    let Q : Upto (sub f one (fin false m e)) 1 1 =
+    let q : sub f one_exact (fin false m e) ≡ round f false (c - a) c = one-minus f m e l in
+    let Q : Upto (sub f one_exact (fin false m e)) 1 1 =
     subst (λ (z : Float). Upto z 1 1) (sym q) (round-upto f (c - a) c 1 1 (down_pos e) (zero-lt-suc 0) (small-whole f 1 (lit≤ tt)) (omega arith)) in
-    least-upto (fin false m e) (sub f one (fin false m e)) 1 1 1 1 1 2 h Q (go (leb (a * 2) c) (leb→le (a * 2) c) (nleb→lt (a * 2) c) q)
+    least-upto (fin false m e) (sub f one_exact (fin false m e)) 1 1 1 1 1 2 h Q (go (leb (a * 2) c) (leb→le (a * 2) c) (nleb→lt (a * 2) c) q)
   where
     go : (b : Bool) → (T b → m * up e * 2 ≤ down e) → (T (not b) → down e < m * up e * 2)
-        → sub f one (fin false m e) ≡ round f false (down e - m * up e) (down e)
-        → Upto (fin false m e) 1 2 ⊎ Upto (sub f one (fin false m e)) 1 2
+        → sub f one_exact (fin false m e) ≡ round f false (down e - m * up e) (down e)
+        → Upto (fin false m e) 1 2 ⊎ Upto (sub f one_exact (fin false m e)) 1 2
     go true p n q = inl (refl, le_trans (p tt) (le_of_eq (sym (one-mul (down e)))))
     go false p n q = inr (subst (λ (z : Float). Upto z 1 2) (sym q)
         (round-upto f (down e - m * up e) (down e) 1 2 (down_pos e) (zero-lt-suc 1) (half-holds f) (twice-le (m * up e) (down e) (n tt))))
@@ -210,11 +210,11 @@ apart f c b C h = go (ltb c b)
     go true = round-within f true (b - c) c 1 1 C (zero-lt-suc 0) (small-whole f 1 (lit≤ tt)) (omega arith)
     go false = round-within f false (c - b) c 1 1 C (zero-lt-suc 0) (small-whole f 1 (lit≤ tt)) (omega arith)
 
-pub one_less : (f : Format) (w : Float) → Upto w 2 1 → Within (sub f one w) 1 1
+pub one_less : (f : Format) (w : Float) → Upto w 2 1 → Within (sub f one_exact w) 1 1
 one_less f nan k = absurd k
 one_less f (inf s) k = absurd k
 one_less f (fin true m e) k = absurd (true≢false k.0)
 one_less f (fin false m e) k =
     subst (λ (z : Float). Within z 1 1)
-    (sym (sub_at f one (fin false m e) false false (down e) (m * up e) (down e) (down_pos e) (one-is (down e)) (refl, refl)))
+    (sym (sub_at f one_exact (fin false m e) false false (down e) (m * up e) (down e) (down_pos e) (one-is (down e)) (refl, refl)))
     (apart f (down e) (m * up e) (down_pos e) (le_trans (le_of_eq (sym (mul-one (m * up e)))) k.1))

@@ -10,13 +10,13 @@ use Rattle.resample_window.specs.Window.{Tap, Small, numbers, weight_of, clamp_o
 use Rattle.resample_window.specs.Taps.{laid_more}
 use Rattle.resample_window.specs.Signed.{small-fits, clamp-below}
 use Rattle.resample_window.specs.Steps.{passed, taps-without, taps-with, tap-at, tap-room}
-use Rattle.resample_window.proofs.Counted.{counted, small-k}
+use Rattle.resample_window.proofs.Counted.{as_counted, small-k}
 use Rattle.resample_window.proofs.push.Goals as goal
 
 -- the number of the turn, as the calls are passed it, and its weight
 number : (w : Window) (n k : ℕ) (j : ℤ) → Small w → n ≡ numbers (to_z w64 (of_z w64 w.first)) (to_z w64 (of_z w64 w.last))
     → k < n → j ≡ to_z w64 (of_z w64 w.first) +ℤ pos k → to_z w64 (of_z w64 j) ≡ w.first +ℤ pos k
-number w n k j small e h is = passed j w.first k small.0 (small-k w n k small (counted w n small e) h) is
+number w n k j small e h is = passed j w.first k small.0 (small-k w n k small (as_counted w n small e) h) is
 
 -- the weight of the turn
 weight-of : (w : Window) (n k : ℕ) (j : ℤ) (v : Weight) (q : Float) → Small w → n ≡ numbers (to_z w64 (of_z w64 w.first)) (to_z w64 (of_z w64 w.last))
@@ -28,7 +28,7 @@ room : (w : Window) (src n k : ℕ) (j : ℤ) (v : Weight) (q : Float) → Small
     → k < n → j ≡ to_z w64 (of_z w64 w.first) +ℤ pos k → v ≡ weight_of w (to_z w64 (of_z w64 j)) → v ≡ Of q
     → length (taps_to w src k) < length (taps_of w src)
 room w src n k j v q small e h is weighed of =
-    tap-room w src k (numbers w.first w.last) q (omega (arith, counted w n small e)) (weight-of w n k j v q small e h is weighed of)
+    tap-room w src k (numbers w.first w.last) q (omega (arith, as_counted w n small e)) (weight-of w n k j v q small e h is weighed of)
 
 pub loop-k-init : goal.loop-k-init
 unfolding taps_to
@@ -46,7 +46,7 @@ pub nth-j-requires : goal.nth-j-requires
 nth-j-requires c =
     let w = c.args.w in
     let small = c.requires.0 in
-    let n = counted w c.count-count.result small c.count-count.ensures in
+    let n = as_counted w c.count-count.result small c.count-count.ensures in
     (omega (arith, ap mag (to_z-of_z w64 w.first (small-fits w.first small.0))), small-k w c.count-count.result c.loop-k.k small n c.loop-k-test.true)
 
 pub loop-k-preserved-in_default : goal.loop-k-preserved-in_default
@@ -99,7 +99,7 @@ loop-k-preserved c =
     let m = length (taps_to w a.src at.k) in
     let all = numbers w.first w.last in
     let t : Tap = record { from = clamp_of a.src (w.first +ℤ pos at.k); weight = c.in-Of.q } in
-    let n = counted w c.count-count.result c.requires.0 c.count-count.ensures in
+    let n = as_counted w c.count-count.result c.requires.0 c.count-count.ensures in
     let k : at.k < all = omega arith in
     let j = number w c.count-count.result at.k c.nth-j.result c.requires.0 c.count-count.ensures c.loop-k-test.true c.nth-j.ensures in
     let one : length (taps_to w a.src (at.k + 1)) ≡ m + 1 =
