@@ -5,8 +5,7 @@ use Rattle.std.proofs.Math.Path.{ap}
 use Rattle.std.proofs.Common.{◌∙◌, subst, mod-lt, arith, lit<, leb-true, ltb-true}
 use mathlib.Core.Bool.{Bool, true, false, not, cond, ◌&&◌}
 use mathlib.Core.List.{List, [], ◌∷◌, ◌++◌, flatten}
-use Prim.Native.Nat as nat
-use Prim.Native.Nat.{ℕ, zero, suc, ◌+◌, ◌-◌, ◌%◌, ◌≤◌, ◌<◌}
+use Prim.Native.Nat.{ℕ, zero, suc, ◌+◌, ◌-◌, ◌/◌, ◌%◌, ◌≤◌, ◌<◌}
 use Rattle.std.specs.Int.Bits.{bit_xor}
 use Rattle.std.proofs.lemmas.Nat.{xor_lt}
 use Rattle.std.proofs.Math.ListN.{length, replicate}
@@ -14,7 +13,7 @@ use Rattle.seq.specs.Lists.{tab, on_part}
 use Rattle.crc32.specs.Ieee8023.{crc_of}
 use Rattle.chacha20.specs.Rfc8439.{keystream, xored, encrypted}
 use Rattle.chacha20.specs.Blocks.{block-below}
-use Rattle.utf8.specs.Abnf.{Rule, %◌-◌, ◌·◌, ◌/◌, Of, byte, joined, first, second, Each, none, more}
+use Rattle.utf8.specs.Abnf.{Rule, %◌-◌, ◌·◌, ◌//◌, Of, byte, joined, first, second, Each, none, more}
 use Rattle.utf8.specs.Counted.{counted_char, counted}
 use Rattle.utf8.specs.Texts.{counted_is}
 use Rattle.refusal.specs.declared.Refusal.TheVariants.{TextTooLong, TextNotUtf8}
@@ -65,7 +64,7 @@ bytes-tab f (suc n) h = bytes-append (tab f n) (f n ∷ []) (bytes-tab f n h) (b
 below : Rule → Bool
 below (% a - z) = ltb z 256
 below (p · q) = below p && below q
-below (p / q) = below p && below q
+below (p // q) = below p && below q
 
 both : (a b : Bool) → (a && b) ≡ true → (a ≡ true) × (b ≡ true)
 both true b e = (refl, e)
@@ -76,8 +75,8 @@ unfolding below
 string_bytes (% a - z) h (byte {b = b} p q) = bytes_one b [] (omega (arith, ltb-true z 256 h)) bytes-none
 string_bytes (p · q) h (joined {s = s} {t = t} a b) =
     let k = both (below p) (below q) h in bytes-append s t (string_bytes p k.0 a) (string_bytes q k.1 b)
-string_bytes (p / q) h (first a) = string_bytes p (both (below p) (below q) h).0 a
-string_bytes (p / q) h (second b) = string_bytes q (both (below p) (below q) h).1 b
+string_bytes (p // q) h (first a) = string_bytes p (both (below p) (below q) h).0 a
+string_bytes (p // q) h (second b) = string_bytes q (both (below p) (below q) h).1 b
 
 strings-bytes : {cs : List (List ℕ)} → Each (Of counted_char) cs → Bytes (flatten cs)
 unfolding below flatten
@@ -95,7 +94,7 @@ cipher-bytes : (key nonce : List ℕ) (p : ℕ) (bs : List ℕ) → Bytes bs →
 unfolding encrypted xored keystream
 cipher-bytes key nonce p bs h =
     bytes-tab (λ k. bit_xor (get_or bs k 0) (keystream key nonce (p + k))) (length bs)
-    (λ k. xor_lt 8 (get_or bs k 0) (keystream key nonce (p + k)) (h k) (block-below key (nat.◌/◌ (p + k) 64) nonce ((p + k) % 64)))
+    (λ k. xor_lt 8 (get_or bs k 0) (keystream key nonce (p + k)) (h k) (block-below key ((p + k) / 64) nonce ((p + k) % 64)))
 
 word_bytes : (w : ℕ) → Bytes (big_endian w)
 unfolding big_endian

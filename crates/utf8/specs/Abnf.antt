@@ -4,21 +4,21 @@ use mathlib.Core.List.{List, [], ◌∷◌, ◌++◌, flatten}
 
 infix 80 %◌-◌ %◌
 infixr 70 ◌·◌
-infixr 60 ◌/◌
+infixr 60 ◌//◌
 pub data Rule : Type 0 where
   -- 3.4: a byte from a to z
   %◌-◌ : ℕ → ℕ → Rule
   -- 3.1: the one, then the other
   ◌·◌ : Rule → Rule → Rule
-  -- 3.2: the one or the other
-  ◌/◌ : Rule → Rule → Rule
+  -- 3.2: the one or the other; written / there
+  ◌//◌ : Rule → Rule → Rule
 
 -- the bytes are a string of the rule
 pub data Of : Rule → List ℕ → Type 0 where
   byte : {a z b : ℕ} → a ≤ b → b ≤ z → Of (% a - z) (b ∷ [])
   joined : {p q : Rule} {s t : List ℕ} → Of p s → Of q t → Of (p · q) (s ++ t)
-  first : {p q : Rule} {s : List ℕ} → Of p s → Of (p / q) s
-  second : {p q : Rule} {s : List ℕ} → Of q s → Of (p / q) s
+  first : {p q : Rule} {s : List ℕ} → Of p s → Of (p // q) s
+  second : {p q : Rule} {s : List ℕ} → Of q s → Of (p // q) s
 
 -- 2.3: one byte
 abbrev pub %◌ : ℕ → Rule

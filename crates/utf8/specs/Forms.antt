@@ -1,7 +1,7 @@
 -- A grammar as a table, and the decision of a text by it, byte by byte. Definitions only.
 use Rattle.std.specs.Prelude.{Bool, true, false, ◌&&◌, cond, ℕ, leb}
 use mathlib.Core.List.{List, [], ◌∷◌, ◌++◌, map, flat_map}
-use Rattle.utf8.specs.Abnf.{Rule, %◌-◌, ◌·◌, ◌/◌}
+use Rattle.utf8.specs.Abnf.{Rule, %◌-◌, ◌·◌, ◌//◌}
 
 infix 80 ◌‥◌
 pub data Range : Type 0 where
@@ -26,7 +26,7 @@ unfoldable pub forms : Rule → List Form
 unfolding flat_map
 forms (% a - z) = record { lead = a ‥ z; rest = [] } ∷ []
 forms (p · q) = flat_map (λ f. map (join f) (forms q)) (forms p)
-forms (p / q) = forms p ++ forms q
+forms (p // q) = forms p ++ forms q
 
 -- no byte lies here
 abbrev pub never : Range

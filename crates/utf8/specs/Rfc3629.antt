@@ -1,6 +1,6 @@
 -- RFC 3629, UTF-8: the syntax of section 4 and the encoding of section 3. Definitions only.
-use Rattle.std.specs.Prelude.{Bool, cond, List, [], ◌∷◌, ℕ, ◌+◌, ◌/◌ as ◌div◌, ◌%◌, ◌≤◌, leb}
-use Rattle.utf8.specs.Abnf.{Rule, %◌, %◌-◌, ◌·◌, ◌/◌, 2⟨◌⟩, 3⟨◌⟩, *⟨◌⟩}
+use Rattle.std.specs.Prelude.{Bool, cond, List, [], ◌∷◌, ℕ, ◌+◌, ◌/◌, ◌%◌, ◌≤◌, leb}
+use Rattle.utf8.specs.Abnf.{Rule, %◌, %◌-◌, ◌·◌, ◌//◌, 2⟨◌⟩, 3⟨◌⟩, *⟨◌⟩}
 use Rattle.utf8.specs.Forms.{forms, accepts}
 
 -- Section 4
@@ -16,19 +16,19 @@ UTF8-2 = % 0xC2 - 0xDF · UTF8-tail
 
 abbrev pub UTF8-3 : Rule
 UTF8-3 =
-    % 0xE0 · % 0xA0 - 0xBF · UTF8-tail /
-    % 0xE1 - 0xEC · 2⟨ UTF8-tail ⟩ /
-    % 0xED · % 0x80 - 0x9F · UTF8-tail /
+    % 0xE0 · % 0xA0 - 0xBF · UTF8-tail //
+    % 0xE1 - 0xEC · 2⟨ UTF8-tail ⟩ //
+    % 0xED · % 0x80 - 0x9F · UTF8-tail //
     % 0xEE - 0xEF · 2⟨ UTF8-tail ⟩
 
 abbrev pub UTF8-4 : Rule
 UTF8-4 =
-    % 0xF0 · % 0x90 - 0xBF · 2⟨ UTF8-tail ⟩ /
-    % 0xF1 - 0xF3 · 3⟨ UTF8-tail ⟩ /
+    % 0xF0 · % 0x90 - 0xBF · 2⟨ UTF8-tail ⟩ //
+    % 0xF1 - 0xF3 · 3⟨ UTF8-tail ⟩ //
     % 0xF4 · % 0x80 - 0x8F · 2⟨ UTF8-tail ⟩
 
 abbrev pub UTF8-char : Rule
-UTF8-char = UTF8-1 / UTF8-2 / UTF8-3 / UTF8-4
+UTF8-char = UTF8-1 // UTF8-2 // UTF8-3 // UTF8-4
 
 abbrev pub UTF8-octets : List ℕ → Type 0
 UTF8-octets = *⟨ UTF8-char ⟩
@@ -49,7 +49,7 @@ unfoldable pub tail : ℕ → ℕ
 tail v = 0x80 + v % 64
 
 unfoldable pub above : ℕ → ℕ
-above v = v div 64
+above v = v / 64
 
 -- the table: 0xxxxxxx, 110xxxxx, 1110xxxx, 11110xxx, and as many tails as the row has
 unfoldable pub encoded_scalar : ℕ → List ℕ

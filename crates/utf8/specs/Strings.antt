@@ -3,7 +3,7 @@ use Rattle.std.specs.Prelude.{◌≡◌, refl, Bool, true, false, ◌&&◌, ◌�
 use Rattle.std.proofs.Common.{ap, subst, inl, inr, ⊎_elim, leb-true, le-leb}
 use Rattle.std.proofs.lemmas.Bool.{false≢true}
 use mathlib.Core.List.{List, [], ◌∷◌, ◌++◌, map, flat_map}
-use Rattle.utf8.specs.Abnf.{Rule, %◌-◌, ◌·◌, ◌/◌, Of, byte, joined, first, second}
+use Rattle.utf8.specs.Abnf.{Rule, %◌-◌, ◌·◌, ◌//◌, Of, byte, joined, first, second}
 use Rattle.utf8.specs.Forms.{Range, ◌‥◌, Form, ranges, join, forms, in_range}
 
 pub and-true : (a b : Bool) → (a && b) ≡ true → (a ≡ true) × (b ≡ true)
@@ -109,4 +109,4 @@ of-form (% a - z) {bs = bs} (there x5) = elim x5 [ ]
 of-form (p · q) d =
     let k = pairs-parts (forms p) (forms q) d in
     subst (λ (x : List ℕ). Of (p · q) x) k.4 (joined (of-form p k.2) (of-form q k.3))
-of-form (p / q) {bs} d = ⊎_elim {C = Of (p / q) bs} (λ e. first (of-form p e)) (λ e. second (of-form q e)) (some-cases (forms p) d)
+of-form (p // q) {bs} d = ⊎_elim {C = Of (p // q) bs} (λ e. first (of-form p e)) (λ e. second (of-form q e)) (some-cases (forms p) d)
