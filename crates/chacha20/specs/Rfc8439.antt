@@ -1,6 +1,6 @@
 -- ChaCha20 as RFC 8439 defines it, sections 2.1 to 2.4. A word is a number below 2^32, a byte one below 256, and a key, a
--- nonce, a state, a block and a message are lists of them. `tab f n` is the list f 0, f 1, .. f (n - 1), and `get_or l k 0`
--- is what stands at place k of l. Definitions only.
+-- nonce, a state, a block and a message are lists of them. `tab f n` is the list f 0, f 1, .. f (n - 1), and `slice_index l k`
+-- is what stands at place k of l, 0 where l ends before. Definitions only.
 use Rattle.std.specs.Prelude.{ℕ, zero, suc, ◌+◌, ◌-◌, ◌*◌, ◌/◌, ◌%◌, ◌^◌, List, [], ◌∷◌, ◌++◌, length, bit_xor, slice_index, slice_set}
 use Rattle.seq.specs.Lists.{tab}
 use Rattle.seq.specs.Bytes.{word, little_endian}

@@ -1,4 +1,4 @@
--- Four times a value up to a half, 1 less that, and the mean of four such: the theorems that lean on `four` of specs/Vote.antt.
+-- Four times a value up to a half, 1 less that, and the mean of four such: the theorems that rest on `four_exact` of specs/Vote.antt.
 use Rattle.std.specs.Prelude.{refl, true, false, ℕ, ◌+◌, ◌*◌, ◌≤◌, ◌<◌, T, Float}
 use Rattle.std.proofs.Common.{sym, subst, true≢false, arith, lit≤}
 use native.Mathlib.Nat.{le_refl, zero-lt-suc, one-mul}
