@@ -9,6 +9,13 @@ use Rattle.report.proofs.put.+decimal.Goals as goal
 more : (n : ℕ) → 10 ≤ n → length (decimal n) ≡ length (decimal (n / 10)) + 1
 more n h = rw (decimal-more n h, length-append)
 
+pub returns : goal.returns
+returns t c =
+    let n = c.args.n in
+    let room : c.args.at + (length (decimal (n / 10)) + 1) ≤ length c.args.out.now =
+    omega (arith, c.requires, more n c.if-n-lt10.false) in
+    rw (decimal-more n c.if-n-lt10.false) (puts-more room c.decimal-last.ensures c.digit-2.ensures)
+
 pub digit-requires : goal.digit-requires
 digit-requires t c =
     let one : length (decimal c.args.n) ≡ 1 = rw (decimal-last c.args.n c.if-n-lt10.true) in
@@ -25,10 +32,3 @@ decimal-last-requires t c =
 pub digit-requires-2 : goal.digit-requires-2
 digit-requires-2 t c =
     (omega arith, omega (arith, c.decimal-last.auto.out, c.decimal-last.ensures.place, c.requires, more c.args.n c.if-n-lt10.false))
-
-pub returns : goal.returns
-returns t c =
-    let n = c.args.n in
-    let room : c.args.at + (length (decimal (n / 10)) + 1) ≤ length c.args.out.now =
-    omega (arith, c.requires, more n c.if-n-lt10.false) in
-    rw (decimal-more n c.if-n-lt10.false) (puts-more room c.decimal-last.ensures c.digit-2.ensures)
