@@ -1,5 +1,5 @@
--- That a promise leaves one outcome. Of a public function f, `f.ended` (in contracts) is its signature and `f.Reads.Post` (in proofs) what its `ensures`
--- clauses say.
+-- That a promise leaves one outcome. Of a public function f, `f.ended` (in contracts) is its signature and `f.Reads.Post` (in
+-- proofs) what its `ensures` clauses say.
 --   Ending       the result, and for each parameter what the memory lent by it holds at the return: the unit, unless it is a
 --                `&mut`, since nothing else is written
 --   Determined   two endings that a promise allows for the same arguments are equal, whether or not the arguments are as the
