@@ -14,3 +14,4 @@ pub mod Byte
 pub mod Absolute
 pub mod Choice
 pub mod Narrow
+pub mod Library

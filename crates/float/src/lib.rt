@@ -9,7 +9,7 @@ ghost use Rattle.std.specs.Float.Ieee.{lt, to_signed};
 ghost use Rattle.float.specs.Base.{zero+, two_to};
 ghost use Rattle.float.specs.Calls.{clamped, floor, ceil, round_away, rounded_byte, narrow, absolute, smaller, larger, in_unit, Under};
 
-use std::num::truncating_f64_to_i64;
+use std::num::{f32_from_bits_with_nan, saturating_f64_to_i64};
 
 // For 0 <= x < 2^23 with the sign clear: `x.round()`. From 2^23 on an `f32` has no fraction, so adding 2^23
 // and taking it off again leaves a whole number at most a half away.
@@ -56,76 +56,31 @@ pub fn round_to_u8(x: f32) -> u8
     half_up(clamp_to_byte(x)) as u8
 }
 
-// `x.floor()`. From 2^52 on an `f64` is whole; below, adding 2^52 and taking it off again leaves a whole
-// number at most a half away, so that one comparison settles which is asked for.
-fn floor_f64(x: f64) -> f64
-    ensures { result ≡ floor binary64 x }
-{
-    if x > 0.0 {
-        if x < 4503599627370496.0 {
-            let near = (x + 4503599627370496.0) - 4503599627370496.0;
-            if x < near {
-                return near - 1.0;
-            }
-            return near;
-        }
-        return x;
-    }
-    if x < 0.0 {
-        if x > -4503599627370496.0 {
-            let y = -x;
-            let near = (y + 4503599627370496.0) - 4503599627370496.0;
-            if near < y {
-                return -(near + 1.0);
-            }
-            return -near;
-        }
-        return x;
-    }
-    x
-}
-
-// `x.floor()`, through the wider format, which holds the same whole number.
+// `x.floor()`.
+#[tactic(auto, using(crate::specs::Library::library_floor))]
 pub fn floor_f32(x: f32) -> f32
     ensures { result ≡ floor binary32 x }
 {
-    if x != x {
-        return x;
-    }
-    floor_f64(x as f64) as f32
-}
-
-// `x as i64`: without the fraction, at the nearest end of the range where it is out of it, 0 for a NaN.
-fn saturating_f64_to_i64(x: f64) -> i64
-    ensures { result ≡ to_signed 63 x }
-{
-    if x < 9223372036854775808.0 {
-        if x >= -9223372036854775808.0 {
-            return truncating_f64_to_i64(x);
-        }
-        return i64::MIN;
-    }
-    if x > 0.0 {
-        return i64::MAX;
-    }
-    0
+    x.floor()
 }
 
 // `x.floor() as i64`.
+#[tactic(auto, using(crate::specs::Library::library_floor))]
 pub fn floor_f64_to_i64(x: f64) -> i64
     ensures { result ≡ to_signed 63 (floor binary64 x) }
 {
-    saturating_f64_to_i64(floor_f64(x))
+    saturating_f64_to_i64(x.floor())
 }
 
 // `x.ceil() as i64`.
+#[tactic(auto, using(crate::specs::Library::library_ceil))]
 pub fn ceil_f64_to_i64(x: f64) -> i64
     ensures { result ≡ to_signed 63 (ceil binary64 x) }
 {
-    saturating_f64_to_i64(-floor_f64(-x))
+    saturating_f64_to_i64(x.ceil())
 }
 
-// `a.min(b)`: b where a is a NaN, a where b is one.
+// `a.min(b)`: b where a is a NaN, a where b is one. Of two equal zeros it is a, which the library leaves open.
 pub fn min_f32(a: f32, b: f32) -> f32
     ensures { result ≡ smaller a b }
 {
@@ -135,7 +90,7 @@ pub fn min_f32(a: f32, b: f32) -> f32
     if b < a { b } else { a }
 }
 
-// `a.max(b)`: b where a is a NaN, a where b is one.
+// `a.max(b)`: b where a is a NaN, a where b is one, and of two equal zeros a.
 pub fn max_f64(a: f64, b: f64) -> f64
     ensures { result ≡ larger a b }
 {
@@ -146,41 +101,25 @@ pub fn max_f64(a: f64, b: f64) -> f64
 }
 
 // `x.abs()`.
+#[tactic(auto, using(crate::specs::Library::library_absolute))]
 pub fn abs_f64(x: f64) -> f64
     ensures { result ≡ absolute x }
 {
-    if x > 0.0 {
-        return x;
-    }
-    if x < 0.0 {
-        return -x;
-    }
-    // a zero of either sign gives +0, and a NaN stays
-    0.0 + x
+    x.abs()
 }
 
 // `(-1.0..=1.0).contains(&x)`: a number from -1 to 1.
 pub fn in_unit(x: f32) -> bool
     ensures { result ≡ in_unit x }
 {
-    if -1.0 <= x { x <= 1.0 } else { false }
+    -1.0 <= x && x <= 1.0
 }
 
 // `f32::from_bits(bits)`, of any 32 bits: the pattern of a NaN gives a NaN, of no particular sign or payload.
 pub fn f32_from_bits(bits: u32) -> f32
     ensures { result ≡ from_bits binary32 bits }
 {
-    let size = bits % 0x8000_0000;
-    if 0x7f80_0000 < size {
-        return 0.0 / 0.0;
-    }
-    f32::from_bits(bits)
-}
-
-fn at_least(a: u64, b: u64) -> u64
-    ensures { result ≡ max a b }
-{
-    if a < b { b } else { a }
+    f32_from_bits_with_nan(bits)
 }
 
 // For 0 < x < 2^128. The last place of x + m is that of an `f32` of x's size, so the sum is rounded as that
@@ -189,7 +128,7 @@ fn narrow_in_range(x: f64) -> f32
     requires { T (lt zero+ x) × T (lt x (two_to 128)) }
     ensures { result ≡ narrow x }
 {
-    let e = at_least(f64::to_bits(x) >> 52, 897);
+    let e = (f64::to_bits(x) >> 52).max(897);
     let m = f64::from_bits((e + 29) << 52);
     let y = (x + m) - m;
     if y < 340282366920938463463374607431768211456.0 {

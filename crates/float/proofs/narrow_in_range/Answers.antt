@@ -37,28 +37,28 @@ no-nan n h = not_nan_f64_bits (n * 2 ^ 52 % 2 ^ 64) (omega arith)
 
 pub overflow_add-m : goal.overflow_add-m
 overflow_add-m c =
-    let h = small-field _ _ _ c.at_least-e.ensures (lit≤ tt) (narrowed c.args.x _ (known c.well_formed.0.1) c.requires.0 c.requires.1 refl).e_small in
+    let h = small-field _ _ _ c.max-e.ensures (lit≤ tt) (narrowed c.args.x _ (known c.well_formed.0.1) c.requires.0 c.requires.1 refl).e_small in
     record { fits = omega arith }
 
 pub float_from_bits-m : goal.float_from_bits-m
 float_from_bits-m c =
-    let h = small-field _ _ _ c.at_least-e.ensures (lit≤ tt) (narrowed c.args.x _ (known c.well_formed.0.1) c.requires.0 c.requires.1 refl).e_small in
+    let h = small-field _ _ _ c.max-e.ensures (lit≤ tt) (narrowed c.args.x _ (known c.well_formed.0.1) c.requires.0 c.requires.1 refl).e_small in
     no-nan _ (omega arith)
 
 pub float_to_float-result : goal.float_to_float-result
 float_to_float-result c =
-    let l = narrowed c.args.x c.at_least-e.result (known c.well_formed.0.1) c.requires.0 c.requires.1 c.at_least-e.ensures in
+    let l = narrowed c.args.x c.max-e.result (known c.well_formed.0.1) c.requires.0 c.requires.1 c.max-e.ensures in
     let x = c.args.x in
-    let e = c.at_least-e.result in
+    let e = c.max-e.result in
     let h = l.e_small in
     subst (λ (b : ℕ). T (fits binary32 (y_of x b) && not (is_nan (y_of x b)))) (sym (whole-shift e h))
     (l.under_fits (test x e true h c.if-y.true))
 
 pub returns-then-y : goal.returns-then-y
 returns-then-y c =
-    let l = narrowed c.args.x c.at_least-e.result (known c.well_formed.0.1) c.requires.0 c.requires.1 c.at_least-e.ensures in
+    let l = narrowed c.args.x c.max-e.result (known c.well_formed.0.1) c.requires.0 c.requires.1 c.max-e.ensures in
     let x = c.args.x in
-    let e = c.at_least-e.result in
+    let e = c.max-e.result in
     let h = l.e_small in
     ap (λ (b : ℕ). y_of x b) (whole-shift e h) ∙ l.under_is (test x e true h c.if-y.true)
 
@@ -68,8 +68,8 @@ float_from_bits-result c = tt
 
 pub returns : goal.returns
 returns c =
-    let l = narrowed c.args.x c.at_least-e.result (known c.well_formed.0.1) c.requires.0 c.requires.1 c.at_least-e.ensures in
+    let l = narrowed c.args.x c.max-e.result (known c.well_formed.0.1) c.requires.0 c.requires.1 c.max-e.ensures in
     let x = c.args.x in
-    let e = c.at_least-e.result in
+    let e = c.max-e.result in
     let h = l.e_small in
     infinity ∙ sym (l.over_is (test x e false h c.if-y.false))
