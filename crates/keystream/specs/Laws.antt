@@ -1,6 +1,6 @@
 -- What callers use of `apply`: when it is granted, that twice is never, that parts make the whole, that lengths are kept,
 -- and that zeros become the keystream.
-use Rattle.std.specs.Prelude.{◌≡◌, refl, ℕ, zero, suc, ◌+◌, ◌*◌, ◌/◌, ◌%◌, ◌≤◌, ◌<◌, length, get_or, replicate}
+use Rattle.std.specs.Prelude.{◌≡◌, refl, ℕ, zero, suc, ◌+◌, ◌*◌, ◌/◌, ◌%◌, ◌≤◌, ◌<◌, length, get_or, replicate, Ok, Err}
 use Rattle.std.proofs.Common.{◌∙◌, mod-lt, div-add-mod', add_assoc, arith, lit<, length-append, get_or-append-add, ext_get_or, le-leb}
 use Rattle.std.proofs.Math.Path.{ap, ap₂}
 use mathlib.Core.List.{List, ◌++◌}
@@ -13,31 +13,31 @@ use Rattle.std.proofs.Math.ListN.{get_or-append}
 use Rattle.std.proofs.lemmas.Bool.{lt-leb}
 use Rattle.seq.specs.Tab.{length-tab, get_or-tab, tab-same, tab-append}
 use Rattle.seq.specs.Lists.{tab}
-use Rattle.keystream.specs.declared.Applied.TheVariants.{Next, KeystreamEnd}
+use Rattle.keystream.specs.declared.KeystreamEnd.{KeystreamEnd}
 use Rattle.chacha20.specs.Rfc8439.{keystream, xored, encrypted}
 use Rattle.keystream.specs.Apply.{left_at, applied_of, bytes_after}
 
 -- granted exactly where as many bytes are left
-pub applied-next : (p n : ℕ) → n ≤ left_at p → applied_of p n ≡ Next (p + n)
+pub applied-next : (p n : ℕ) → n ≤ left_at p → applied_of p n ≡ Ok (p + n)
 unfolding applied_of
 applied-next p n h = rw (le-leb n (left_at p) h)
 
-pub applied-end : (p n : ℕ) → left_at p < n → applied_of p n ≡ KeystreamEnd
+pub applied-end : (p n : ℕ) → left_at p < n → applied_of p n ≡ Err (record {})
 unfolding applied_of
 applied-end p n h = rw (lt-leb n (left_at p) h)
 
 -- and what the answer tells
-pub next-granted : (p n q : ℕ) → applied_of p n ≡ Next q → n ≤ left_at p
+pub next-granted : (p n q : ℕ) → applied_of p n ≡ Ok q → (n ≤ left_at p) × (q ≡ p + n)
 next-granted p n q e =
     elim (dec_le n (left_at p)) [
-      | yes h ↦ h
-      | no h ↦ let z : ◌≡◌ {A = ℕ} 0 1 = cc (e, applied-end p n (omega arith)) in absurd (omega arith)
+      | yes h ↦ (h, cc (e, applied-next p n h))
+      | no h ↦ let z : ⊥ = cc (e, applied-end p n (omega arith)) in absurd z
     ]
 
-pub end_refused : (p n : ℕ) → applied_of p n ≡ KeystreamEnd → left_at p < n
-end_refused p n e =
+pub end_refused : (p n : ℕ) (d : KeystreamEnd) → applied_of p n ≡ Err d → left_at p < n
+end_refused p n d e =
     elim (dec_le n (left_at p)) [
-      | yes h ↦ let z : ◌≡◌ {A = ℕ} 0 1 = cc (e, applied-next p n h) in absurd (omega arith)
+      | yes h ↦ let z : ⊥ = cc (e, applied-next p n h) in absurd z
       | no h ↦ omega arith
     ]
 

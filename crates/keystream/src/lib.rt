@@ -3,7 +3,7 @@
 // to specs/Apply.antt.
 #![tactic(auto)]
 
-ghost use Rattle.std.specs.Prelude.{◌≡◌, ◌+◌, ◌-◌, ◌≤◌, ◌<◌, min, length, get_or};
+ghost use Rattle.std.specs.Prelude.{◌≡◌, ◌+◌, ◌-◌, ◌≤◌, length, get_or};
 ghost use Rattle.chacha20.specs.Rfc8439.{xored, encrypted};
 ghost use Rattle.keystream.specs.Apply.{left_at, applied_of, bytes_after, applied_number};
 
@@ -13,12 +13,9 @@ pub type Position = u64;
 
 const END: Position = 1 << 38;
 
-// The answer to a request for keystream: the position after it, or that the keystream ends too early.
-#[derive(Clone, Copy)]
-pub enum Applied {
-    Next(Position),
-    KeystreamEnd,
-}
+// The keystream ends before the bytes that were asked for do.
+#[derive(Clone, Copy, PartialEq, Eq, Debug)]
+pub struct KeystreamEnd;
 
 // The number of bytes from a position on.
 fn left(from: Position) -> u64
@@ -27,23 +24,16 @@ fn left(from: Position) -> u64
     if from < END { END - from } else { 0 }
 }
 
-// Granted if as many bytes are left, which for no bytes is everywhere.
-fn answer_to(from: Position, wanted: u64) -> Applied
+// The position after a request. Granted if as many bytes are left, which for no bytes is everywhere.
+#[tactic(auto, unfolding(crate::specs::Apply::applied_of))]
+fn next(from: Position, wanted: u64) -> Result<Position, KeystreamEnd>
     ensures { result ≡ applied_of from wanted }
 {
     if left(from) < wanted {
-        Applied::KeystreamEnd
+        Err(KeystreamEnd)
     } else {
-        Applied::Next(from + wanted)
+        Ok(from + wanted)
     }
-}
-
-// How many of the bytes wanted a block has from its byte `at` on.
-fn in_block(at: usize, wanted: usize) -> usize
-    requires { at < 64 }
-    ensures { result ≡ min (64 - at) wanted }
-{
-    if 64 - at < wanted { 64 - at } else { wanted }
 }
 
 // A block from its byte `at` on, put onto bytes that it has enough for.
@@ -51,12 +41,13 @@ fn xor_bytes(stream: &[u8; 64], at: usize, bytes: &mut [u8])
     requires { at + length bytes.old ≤ 64 }
     ensures { bytes.new ≡ xored (λ k. get_or stream.now k 0) at bytes.old }
 {
-    for i in 0..bytes.len() {
-        bytes[i] = bytes[i] ^ stream[at + i];
+    for (i, byte) in bytes.iter_mut().enumerate() {
+        *byte ^= stream[at + i];
     }
 }
 
 // 2.4: the keystream put onto bytes of which there are no more than are left, a block at a time.
+// Counted by hand: the first block may be a part, and a proof knows nothing of what is written through `chunks_mut`.
 fn encrypt(key: &[u8; 32], nonce: &[u8; 12], from: Position, bytes: &mut [u8])
     requires { length bytes.old ≤ left_at from }
     ensures { bytes.new ≡ encrypted key.now nonce.now from bytes.old }
@@ -67,7 +58,7 @@ fn encrypt(key: &[u8; 32], nonce: &[u8; 12], from: Position, bytes: &mut [u8])
         let p = from + done as u64;
         let stream = chacha20::block_from(&first, (p / 64) as u32);
         let at = (p % 64) as usize;
-        let end = done + in_block(at, bytes.len() - done);
+        let end = done + (64 - at).min(bytes.len() - done);
         xor_bytes(&stream, at, &mut bytes[done..end]);
         done = end;
     }
@@ -76,23 +67,27 @@ fn encrypt(key: &[u8; 32], nonce: &[u8; 12], from: Position, bytes: &mut [u8])
 // Puts the keystream from a position on onto the lent bytes, by exclusive or, and gives the position
 // after it; the same again from the same position undoes it. Where fewer bytes are left than are lent
 // the answer is KeystreamEnd and the bytes are unchanged. A request for no bytes is never refused.
-pub fn apply(key: &[u8; 32], nonce: &[u8; 12], from: Position, bytes: &mut [u8]) -> Applied
+#[tactic(auto, unfolding(crate::specs::Apply::applied_of, crate::specs::Apply::bytes_after))]
+pub fn apply(
+    key: &[u8; 32],
+    nonce: &[u8; 12],
+    from: Position,
+    bytes: &mut [u8],
+) -> Result<Position, KeystreamEnd>
     ensures answer { result ≡ applied_of from (length bytes.old) }
     ensures lent { bytes.new ≡ bytes_after key.now nonce.now from bytes.old }
 {
-    let answer = answer_to(from, bytes.len() as u64);
-    if let Applied::Next(_) = answer {
-        encrypt(key, nonce, from, bytes);
-    }
-    answer
+    let next = next(from, bytes.len() as u64)?;
+    encrypt(key, nonce, from, bytes);
+    Ok(next)
 }
 
 // The answer as a number: 0, or 14, the number of KeystreamEnd.
-pub fn number(answer: Applied) -> u8
+pub fn number(answer: Result<Position, KeystreamEnd>) -> u8
     ensures { result ≡ applied_number answer }
 {
     match answer {
-        Applied::Next(_) => 0,
-        Applied::KeystreamEnd => 14,
+        Ok(_) => 0,
+        Err(KeystreamEnd) => 14,
     }
 }

@@ -1,8 +1,6 @@
 -- The table of refusals of the scope: each refusal's number, and the number given with it; and an answer as these two
 -- numbers. Definitions only.
-use Rattle.std.specs.Prelude.{ℕ}
-use Rattle.refusal.specs.declared.Answer.{Answer}
-use Rattle.refusal.specs.declared.Answer.TheVariants.{Done, Refused}
+use Rattle.std.specs.Prelude.{ℕ, Result, Ok, Err}
 use Rattle.refusal.specs.declared.Refusal.{Refusal}
 use Rattle.refusal.specs.declared.Refusal.TheVariants.{
   TextTooLong,
@@ -56,17 +54,17 @@ given_of WrongPasswordOrDamaged = 0
 given_of KeystreamEnd = 0
 given_of (BadVote index) = index
 
--- ---- an answer: 0, 0 where all is done
+-- ---- an answer, whatever it gives: 0, 0 where nothing is refused
 
-abbrev pub code_of : Answer → ℕ
-code_of Done = 0
-code_of (Refused r) = number_of r
+abbrev pub code_of : {A : Type 0} → Result A Refusal → ℕ
+code_of (Ok _) = 0
+code_of (Err r) = number_of r
 
-abbrev pub given_for : Answer → ℕ
-given_for Done = 0
-given_for (Refused r) = given_of r
+abbrev pub given_for : {A : Type 0} → Result A Refusal → ℕ
+given_for (Ok _) = 0
+given_for (Err r) = given_of r
 
 -- the first of two answers that is a refusal
-unfoldable pub first : Answer → Answer → Answer
-first Done b = b
-first (Refused r) b = Refused r
+abbrev pub first : {A : Type 0} → Result A Refusal → Result A Refusal → Result A Refusal
+first (Ok _) b = b
+first (Err r) b = Err r

@@ -44,7 +44,7 @@ pub loop-done-preserved : goal.loop-done-preserved
 loop-done-preserved c =
     let key = c.args.key.now in
     let nonce = c.args.nonce.now in
-    let step = turn key nonce c.args.bytes.now c.args.from c.loop-done.done c.in_block.result (omega (arith, c)) (omega (arith, c)) in (
+    let step = turn key nonce c.args.bytes.now c.args.from c.loop-done.done c.min.result (omega (arith, c)) (omega (arith, c)) in (
       search rules,
       search rules,
       rw (
