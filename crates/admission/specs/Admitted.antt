@@ -1,12 +1,10 @@
 -- What it means that a picture is admitted: its sides, channels, samples and work area are as they should be.
-use Rattle.std.specs.Prelude.{◌≡◌, refl, Bool, not, ◌||◌, ℕ, ◌*◌, ◌≤◌, ◌<◌, T, eqb, ltb}
+use Rattle.std.specs.Prelude.{Result, Ok, Err, ◌≡◌, refl, Bool, not, ◌||◌, ℕ, ◌*◌, ◌≤◌, ◌<◌, T, eqb, ltb}
 use Rattle.std.proofs.Common.{sym, subst, mul-le-mul_right, ltb→lt, nltb→le, eqb→eq, ltb-false, eqb-true}
 use Rattle.std.proofs.Math.Bool.{true, false, cond}
 use native.Mathlib.Omega.{arith}
 use Rattle.std.proofs.lemmas.Bool.{eqb-false, not-false}
 use Rattle.refusal.specs.declared.Refusal.{Refusal}
-use Rattle.refusal.specs.declared.Answer.{Answer}
-use Rattle.refusal.specs.declared.Answer.TheVariants.{Done, Refused}
 use Rattle.refusal.specs.Laws.{refused-not-done}
 use Rattle.picture.specs.declared.Picture.{Picture}
 use Rattle.admission.specs.Admission.{shorter, longer, room_of, admission, write_admission, read_admission}
@@ -54,8 +52,8 @@ three-or-four c e = go (eqb c 3) (eqb c 4) (eqb→eq c 3) (eqb→eq c 4) e
 -- ---- what an answer tells
 
 -- where all is done, a test did not refuse and neither did what follows it
-past : (t : Bool) (r : Refusal) (rest : Answer) → cond t (Refused r) rest ≡ Done → (t ≡ false) × (rest ≡ Done)
-past true r rest e = absurd (refused-not-done _ e)
+past : (t : Bool) (r : Refusal) (rest : Result (Unit {0}) Refusal) → cond t (Err r) rest ≡ Ok tt → (t ≡ false) × (rest ≡ Ok tt)
+past true r rest e = absurd (refused-not-done _ tt e)
 past false r rest e = (refl, e)
 
 pub record Admitted (parts : ℕ) (p : Picture) (samples work : ℕ) : Type 0 where
@@ -66,7 +64,7 @@ pub record Admitted (parts : ℕ) (p : Picture) (samples work : ℕ) : Type 0 wh
   pub full : samples ≡ p.width * p.height * p.channels
   pub room : room_of parts p ≤ work
 
-pub admitted : (parts : ℕ) (p : Picture) (samples work : ℕ) → admission parts p samples work ≡ Done → Admitted parts p samples work
+pub admitted : (parts : ℕ) (p : Picture) (samples work : ℕ) → admission parts p samples work ≡ Ok tt → Admitted parts p samples work
 unfolding admission
 admitted parts p samples work e =
     let side = past _ _ _ e in
@@ -84,14 +82,14 @@ admitted parts p samples work e =
       room = ltb-false _ _ work-area.0;
     }
 
-pub write-admitted : (p : Picture) (samples work : ℕ) → write_admission p samples work ≡ Done → (512 ≤ p.width) × (512 ≤ p.height) × Admitted 2 p samples work
+pub write-admitted : (p : Picture) (samples work : ℕ) → write_admission p samples work ≡ Ok tt → (512 ≤ p.width) × (512 ≤ p.height) × Admitted 2 p samples work
 unfolding write_admission
 write-admitted p samples work e =
     let small = past _ _ _ e in
     let h : 512 ≤ shorter p = ltb-false (shorter p) 512 small.0 in
     (omega (arith, (sides-least p).0), omega (arith, (sides-least p).1), admitted 2 p samples work small.1)
 
-pub read-admitted : (p : Picture) (samples work : ℕ) → read_admission p samples work ≡ Done → (0 < p.width) × (0 < p.height) × Admitted 1 p samples work
+pub read-admitted : (p : Picture) (samples work : ℕ) → read_admission p samples work ≡ Ok tt → (0 < p.width) × (0 < p.height) × Admitted 1 p samples work
 unfolding read_admission
 read-admitted p samples work e =
     let sides = past _ _ _ e in

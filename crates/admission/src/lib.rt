@@ -7,34 +7,26 @@ ghost use Rattle.admission.specs.Admission.{shorter, longer, admission, write_ad
 ghost use Rattle.picture.specs.Sizes.{longest_side};
 
 use picture::{LONGEST, PLANE, Picture, SHORTEST_TO_WRITE};
-use refusal::{Answer, Refusal};
+use refusal::Refusal;
 
 #[tactic(auto, unfolding(crate::specs::Admission::shorter))]
 fn shorter(p: Picture) -> usize
     ensures { result ≡ shorter p }
 {
-    if p.width < p.height {
-        p.width
-    } else {
-        p.height
-    }
+    p.width.min(p.height)
 }
 
 #[tactic(auto, unfolding(crate::specs::Admission::longer))]
 fn longer(p: Picture) -> usize
     ensures { result ≡ longer p }
 {
-    if p.width < p.height {
-        p.height
-    } else {
-        p.width
-    }
+    p.width.max(p.height)
 }
 
 fn empty(p: Picture) -> bool
     ensures { result ≡ (eqb p.width 0 || eqb p.height 0) }
 {
-    (p.width == 0) | (p.height == 0)
+    p.width == 0 || p.height == 0
 }
 
 // How many pixels a picture has whose sides are not too long.
@@ -47,49 +39,49 @@ fn pixels(p: Picture) -> usize
 
 // Whether a picture with so many samples and so much work area can be used, `parts` times its room being needed.
 #[tactic(auto, unfolding(crate::specs::Admission::admission, crate::specs::Admission::room_of))]
-fn admit(parts: usize, p: Picture, samples: usize, work: usize) -> Answer
+fn admit(parts: usize, p: Picture, samples: usize, work: usize) -> Result<(), Refusal>
     requires { parts ≤ 2 }
     ensures { result ≡ admission parts p samples work }
 {
     let side = longer(p);
     let channels = p.channels;
     if LONGEST < side {
-        return Answer::Refused(Refusal::ImageTooLarge(side));
+        return Err(Refusal::ImageTooLarge(side));
     }
-    if !((channels == 3) | (channels == 4)) {
-        return Answer::Refused(Refusal::BadChannels(channels));
+    if channels != 3 && channels != 4 {
+        return Err(Refusal::BadChannels(channels));
     }
     let pixels = pixels(p);
     let all = pixels * channels;
     let needed = parts * (PLANE + pixels);
     if samples != all {
-        return Answer::Refused(Refusal::BadLength(samples));
+        return Err(Refusal::BadLength(samples));
     }
     if work < needed {
-        return Answer::Refused(Refusal::WorkTooSmall(needed));
+        return Err(Refusal::WorkTooSmall(needed));
     }
-    Answer::Done
+    Ok(())
 }
 
 // Whether a text can be written into a picture with so many samples, with so much work area.
 #[tactic(auto, unfolding(crate::specs::Admission::write_admission))]
-pub fn may_write(p: Picture, samples: usize, work: usize) -> Answer
+pub fn may_write(p: Picture, samples: usize, work: usize) -> Result<(), Refusal>
     ensures { result ≡ write_admission p samples work }
 {
     let side = shorter(p);
     if side < SHORTEST_TO_WRITE {
-        return Answer::Refused(Refusal::ImageTooSmall(side));
+        return Err(Refusal::ImageTooSmall(side));
     }
     admit(2, p, samples, work)
 }
 
 // Whether a text can be read from it.
 #[tactic(auto, unfolding(crate::specs::Admission::read_admission))]
-pub fn may_read(p: Picture, samples: usize, work: usize) -> Answer
+pub fn may_read(p: Picture, samples: usize, work: usize) -> Result<(), Refusal>
     ensures { result ≡ read_admission p samples work }
 {
     if empty(p) {
-        return Answer::Refused(Refusal::NoWatermark);
+        return Err(Refusal::NoWatermark);
     }
     admit(1, p, samples, work)
 }
