@@ -1,13 +1,10 @@
 -- The line that the program votes prints (section 20 of the scope): "text", length, the bytes in lowercase hex ("-" if none); or
 -- "refused", number, number given, in decimal. In ASCII, and with the line's end. Definitions only.
-use Rattle.std.specs.Prelude.{◌≡◌, cond, List, [], ◌∷◌, ◌++◌, ℕ, zero, suc, ◌+◌, ◌-◌, ◌/◌, ◌%◌, ◌≤◌, ltb, length, take, replicate}
+use Rattle.std.specs.Prelude.{cond, List, [], ◌∷◌, ◌++◌, ℕ, zero, suc, ◌+◌, ◌-◌, ◌/◌, ◌%◌, ltb, length, Result, Ok, Err}
 use Prim.Native.Char.{code}
 use Prim.Native.String.{String, [] as []ˢ, ◌∷◌ as ◌∷ˢ◌}
 use Rattle.refusal.specs.Numbers.{number_of, given_of}
-use Rattle.refusal.specs.declared.Answer.{Answer}
-use Rattle.refusal.specs.declared.Answer.TheVariants.{Done, Refused}
-use Rattle.record.specs.declared.Reading.{Reading}
-use Rattle.report.specs.declared.Line.{Line}
+use Rattle.refusal.specs.declared.Refusal.{Refusal}
 
 -- the codes of a word's characters
 abbrev pub ascii : String → List ℕ
@@ -41,27 +38,17 @@ hex (b ∷ bs) = pairs (b ∷ bs)
 
 -- ---- the line
 
-unfoldable pub text_line : ℕ → List ℕ → List ℕ
-text_line n bs = ascii "text " ++ decimal n ++ ascii " " ++ hex bs ++ ascii "\n"
+unfoldable pub text_line : List ℕ → List ℕ
+text_line text = ascii "text " ++ decimal (length text) ++ ascii " " ++ hex text ++ ascii "\n"
 
 unfoldable pub refused_line : ℕ → ℕ → List ℕ
 refused_line number given = ascii "refused " ++ decimal number ++ ascii " " ++ decimal given ++ ascii "\n"
 
-abbrev answer_line : Reading → Answer → List ℕ
-answer_line reading Done = text_line reading.length (take reading.length reading.text)
-answer_line reading (Refused r) = refused_line (number_of r) (given_of r)
+-- of what was read
+unfoldable pub line_of : Result (List ℕ) Refusal → List ℕ
+line_of (Ok text) = text_line text
+line_of (Err r) = refused_line (number_of r) (given_of r)
 
-unfoldable pub line_of : Reading → List ℕ
-line_of reading = answer_line reading reading.answer
-
--- ---- the code's line: zeros behind it. The longest is "text 32 ", 64 digits and the end.
-
+-- the longest line is "text 32 ", 64 digits and the end
 abbrev pub room_of_line : ℕ
 room_of_line = 73
-
-abbrev pub line_as : List ℕ → Line
-line_as bs = record { bytes = bs ++ replicate (room_of_line - length bs) 0; length = length bs }
-
--- the first `length` bytes are there to be lent
-abbrev pub Lends : Line → Type 0
-Lends line = (line.length ≤ length line.bytes) × (line.length ≡ length (take line.length line.bytes))

@@ -6,12 +6,14 @@
 ghost use Rattle.std.specs.Prelude.{◌≡◌};
 ghost use Rattle.refusal.specs.Numbers.{code_of, given_for};
 ghost use Rattle.record.specs.Given.{lock_from, key_from};
+ghost use Rattle.record.specs.Answers.{text_given, padded};
 ghost use Rattle.extract.specs.Extract.{record_reading};
-ghost use Rattle.vaikelomu.specs.C.{version, is_set, picture_of, written_for, read_for, votes_for};
+ghost use Rattle.vaikelomu.specs.C.{version, is_set, picture_of, length_of, record_given, written_for, read_for, votes_for};
 
 use encoder::RECORD;
 use picture::Picture;
-use record::{Key, Lock, Reading};
+use record::{Key, Lock, Text};
+use refusal::Refusal;
 
 // The version of what C links, 0.1.0, as include/vaikelomu.h has it.
 const MAJOR: u32 = 0;
@@ -31,29 +33,33 @@ fn picture_of(width: usize, height: usize, channels: usize) -> Picture
     ensures { result ≡ picture_of width height channels }
 {
     Picture {
-        width: width,
-        height: height,
-        channels: channels,
+        width,
+        height,
+        channels,
     }
 }
 
 // A flag is a byte, since C may lend a `bool` that is neither true nor false.
-fn lock_of(locked: u8, key: &[u8; 32], salt: &[u8; 4]) -> Lock
+fn lock_of(locked: u8, key: &[u8; 32], salt: &[u8; 4]) -> Option<Lock>
     ensures { result ≡ lock_from (is_set locked) key.now salt.now }
 {
-    Lock {
-        given: locked != 0,
-        key: *key,
-        salt: *salt,
+    if locked != 0 {
+        Some(Lock {
+            key: *key,
+            salt: *salt,
+        })
+    } else {
+        None
     }
 }
 
-fn key_of(keyed: u8, key: &[u8; 32]) -> Key
+fn key_of(keyed: u8, key: &[u8; 32]) -> Option<Key>
     ensures { result ≡ key_from (is_set keyed) key.now }
 {
-    Key {
-        given: keyed != 0,
-        bytes: *key,
+    if keyed != 0 {
+        Some(Key { bytes: *key })
+    } else {
+        None
     }
 }
 
@@ -87,23 +93,30 @@ pub fn vaikelomu_write(
     let picture = picture_of(width, height, channels);
     let lock = lock_of(locked, key, salt);
     let answer = resilient::write(samples, picture, text, lock, work);
-    *given = refusal::given_for(answer);
-    refusal::code(answer)
+    *given = refusal::given_for(&answer);
+    refusal::code(&answer)
 }
 
-// What was read, put where C looks for it.
-fn tell(reading: Reading, text: &mut [u8; 32], length: &mut usize, given: &mut u64) -> u8
-    ensures answer { result ≡ code_of reading.answer }
-    ensures text { text.new ≡ reading.text }
-    ensures length { length.new ≡ reading.length }
-    ensures number { given.new ≡ given_for reading.answer }
+// What was read, put where C looks for it: no text where it is refused.
+fn tell(
+    reading: &Result<Text, Refusal>,
+    text: &mut [u8; 32],
+    length: &mut usize,
+    given: &mut u64,
+) -> u8
+    ensures answer { result ≡ code_of reading.now }
+    ensures text { text.new ≡ padded (text_given reading.now) }
+    ensures length { length.new ≡ length_of (text_given reading.now) }
+    ensures number { given.new ≡ given_for reading.now }
 {
-    let read = reading.text;
-    let said = reading.answer;
-    *text = read;
-    *length = reading.length;
-    *given = refusal::given_for(said);
-    refusal::code(said)
+    let read = match reading {
+        Ok(read) => *read,
+        Err(_) => Text::empty(),
+    };
+    *text = read.bytes();
+    *length = read.len();
+    *given = refusal::given_for(reading);
+    refusal::code(reading)
 }
 
 // Reads the picture's text, with no key where `keyed` is 0, else with the key. The answer is 0, with the text, zeros
@@ -120,18 +133,18 @@ pub fn vaikelomu_read(
     length: &mut usize,
     given: &mut u64,
 ) -> u8
-    ensures answer { result ≡ code_of (read_for samples.now width height channels keyed key.now work.old).reading.answer }
+    ensures answer { result ≡ code_of (read_for samples.now width height channels keyed key.now work.old).reading }
     ensures work { work.new ≡ (read_for samples.now width height channels keyed key.now work.old).work }
     ensures text { text.new
-        ≡ (read_for samples.now width height channels keyed key.now work.old).reading.text }
+        ≡ padded (text_given (read_for samples.now width height channels keyed key.now work.old).reading) }
     ensures length { length.new
-        ≡ (read_for samples.now width height channels keyed key.now work.old).reading.length }
+        ≡ length_of (text_given (read_for samples.now width height channels keyed key.now work.old).reading) }
     ensures number { given.new
-        ≡ given_for (read_for samples.now width height channels keyed key.now work.old).reading.answer }
+        ≡ given_for (read_for samples.now width height channels keyed key.now work.old).reading }
 {
     let picture = picture_of(width, height, channels);
     let reading = resilient::read(samples, picture, key_of(keyed, key), work);
-    tell(reading, text, length, given)
+    tell(&reading, text, length, given)
 }
 
 // The same from the votes of the picture's blocks.
@@ -143,26 +156,24 @@ pub fn vaikelomu_read_votes(
     length: &mut usize,
     given: &mut u64,
 ) -> u8
-    ensures answer { result ≡ code_of (votes_for votes.now keyed key.now).answer }
-    ensures text { text.new ≡ (votes_for votes.now keyed key.now).text }
-    ensures length { length.new ≡ (votes_for votes.now keyed key.now).length }
-    ensures number { given.new ≡ given_for (votes_for votes.now keyed key.now).answer }
+    ensures answer { result ≡ code_of (votes_for votes.now keyed key.now) }
+    ensures text { text.new ≡ padded (text_given (votes_for votes.now keyed key.now)) }
+    ensures length { length.new ≡ length_of (text_given (votes_for votes.now keyed key.now)) }
+    ensures number { given.new ≡ given_for (votes_for votes.now keyed key.now) }
 {
     let reading = extract::read_votes(votes, key_of(keyed, key));
-    tell(reading, text, length, given)
+    tell(&reading, text, length, given)
 }
 
 // The record that the votes decode to. The answer is 0, with the record; or the refusal's number, with zeros, and `given`
 // becomes the number given with it.
 pub fn vaikelomu_record(votes: &[f32], bytes: &mut [u8; RECORD], given: &mut u64) -> u8
-    ensures answer { result ≡ code_of (record_reading votes.now).answer }
-    ensures bytes { bytes.new ≡ (record_reading votes.now).bytes }
-    ensures number { given.new ≡ given_for (record_reading votes.now).answer }
+    ensures answer { result ≡ code_of (record_reading votes.now) }
+    ensures bytes { bytes.new ≡ record_given (record_reading votes.now) }
+    ensures number { given.new ≡ given_for (record_reading votes.now) }
 {
     let found = extract::record_of(votes);
-    let decoded = found.bytes;
-    let told = found.answer;
-    *bytes = decoded;
-    *given = refusal::given_for(told);
-    refusal::code(told)
+    *bytes = found.unwrap_or([0; RECORD]);
+    *given = refusal::given_for(&found);
+    refusal::code(&found)
 }

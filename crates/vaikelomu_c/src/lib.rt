@@ -4,8 +4,9 @@
 
 ghost use Rattle.std.specs.Prelude.{◌≡◌};
 ghost use Rattle.refusal.specs.Numbers.{code_of, given_for};
+ghost use Rattle.record.specs.Answers.{text_given, padded};
 ghost use Rattle.extract.specs.Extract.{record_reading};
-ghost use Rattle.vaikelomu.specs.C.{version, written_for, read_for, votes_for};
+ghost use Rattle.vaikelomu.specs.C.{version, length_of, record_given, written_for, read_for, votes_for};
 
 use encoder::RECORD;
 
@@ -65,14 +66,14 @@ pub extern "C" fn vaikelomu_read(
     length: &mut usize,
     given: &mut u64,
 ) -> u8
-    ensures answer { result ≡ code_of (read_for samples.now width height channels keyed key.now work.old).reading.answer }
+    ensures answer { result ≡ code_of (read_for samples.now width height channels keyed key.now work.old).reading }
     ensures work { work.new ≡ (read_for samples.now width height channels keyed key.now work.old).work }
     ensures text { text.new
-        ≡ (read_for samples.now width height channels keyed key.now work.old).reading.text }
+        ≡ padded (text_given (read_for samples.now width height channels keyed key.now work.old).reading) }
     ensures length { length.new
-        ≡ (read_for samples.now width height channels keyed key.now work.old).reading.length }
+        ≡ length_of (text_given (read_for samples.now width height channels keyed key.now work.old).reading) }
     ensures number { given.new
-        ≡ given_for (read_for samples.now width height channels keyed key.now work.old).reading.answer }
+        ≡ given_for (read_for samples.now width height channels keyed key.now work.old).reading }
 {
     vaikelomu::vaikelomu_read(
         samples, width, height, channels, keyed, key, work, text, length, given,
@@ -89,10 +90,10 @@ pub extern "C" fn vaikelomu_read_votes(
     length: &mut usize,
     given: &mut u64,
 ) -> u8
-    ensures answer { result ≡ code_of (votes_for votes.now keyed key.now).answer }
-    ensures text { text.new ≡ (votes_for votes.now keyed key.now).text }
-    ensures length { length.new ≡ (votes_for votes.now keyed key.now).length }
-    ensures number { given.new ≡ given_for (votes_for votes.now keyed key.now).answer }
+    ensures answer { result ≡ code_of (votes_for votes.now keyed key.now) }
+    ensures text { text.new ≡ padded (text_given (votes_for votes.now keyed key.now)) }
+    ensures length { length.new ≡ length_of (text_given (votes_for votes.now keyed key.now)) }
+    ensures number { given.new ≡ given_for (votes_for votes.now keyed key.now) }
 {
     vaikelomu::vaikelomu_read_votes(votes, keyed, key, text, length, given)
 }
@@ -101,9 +102,9 @@ pub extern "C" fn vaikelomu_read_votes(
 // becomes the number given with it.
 #[unsafe(no_mangle)]
 pub extern "C" fn vaikelomu_record(votes: &[f32], bytes: &mut [u8; RECORD], given: &mut u64) -> u8
-    ensures answer { result ≡ code_of (record_reading votes.now).answer }
-    ensures bytes { bytes.new ≡ (record_reading votes.now).bytes }
-    ensures number { given.new ≡ given_for (record_reading votes.now).answer }
+    ensures answer { result ≡ code_of (record_reading votes.now) }
+    ensures bytes { bytes.new ≡ record_given (record_reading votes.now) }
+    ensures number { given.new ≡ given_for (record_reading votes.now) }
 {
     vaikelomu::vaikelomu_record(votes, bytes, given)
 }
