@@ -21,7 +21,7 @@ pub struct KeystreamEnd;
 fn left(from: Position) -> u64
     ensures { result ≡ left_at from }
 {
-    if from < END { END - from } else { 0 }
+    END.saturating_sub(from)
 }
 
 // The position after a request. Granted if as many bytes are left, which for no bytes is everywhere.

@@ -1,9 +1,11 @@
--- A reading by what it stands for: where there is a refusal the text is zeros, and a text has zeros after it. Definitions only.
-use Rattle.std.specs.Prelude.{◌++◌, ◌-◌, length, replicate}
-use Rattle.refusal.specs.declared.Answer.TheVariants.{Done, Refused}
-use Rattle.record.specs.declared.Reading.{Reading}
-use Rattle.record.specs.Record.{short, Outcome, refused, gives}
+-- What is lent for a text: the text of an answer, none where it is refused, with zeros after it. Definitions only.
+use Rattle.std.specs.Prelude.{List, [], ℕ, ◌++◌, ◌-◌, length, replicate, Result, Ok, Err}
+use Rattle.refusal.specs.declared.Refusal.{Refusal}
+use Rattle.record.specs.Record.{short}
 
-abbrev pub read_as : Outcome → Reading
-read_as (refused r) = record { text = replicate short.room 0; length = 0; answer = Refused r }
-read_as (gives text) = record { text = text ++ replicate (short.room - length text) 0; length = length text; answer = Done }
+abbrev pub text_given : Result (List ℕ) Refusal → List ℕ
+text_given (Ok text) = text
+text_given (Err _) = []
+
+abbrev pub padded : List ℕ → List ℕ
+padded text = text ++ replicate (short.room - length text) 0

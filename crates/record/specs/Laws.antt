@@ -1,10 +1,10 @@
 -- Laws on the record's definitions: lengths, what stands at which place, a CRC that was put there, and that the cipher twice
 -- is never.
-use Rattle.std.specs.Prelude.{◌≡◌, Bool, ◌&&◌, ℕ, ◌+◌, ◌-◌, ◌*◌, ◌/◌, ◌%◌, ◌^◌, ◌≤◌, ◌<◌, get_or}
+use Rattle.std.specs.Prelude.{◌≡◌, Bool, ◌&&◌, ℕ, ◌+◌, ◌-◌, ◌*◌, ◌/◌, ◌%◌, ◌^◌, ◌≤◌, ◌<◌, get_or, Option, Some, None, IfSome}
 use Rattle.std.proofs.Math.Path.{refl}
 use Rattle.std.proofs.Common.{◌∙◌, add-zero, get_or-append-add, eq-eqb, leb-true}
-use Rattle.std.proofs.Math.Bool.{true, false, cond}
-use mathlib.Core.List.{List, ◌∷◌, ◌++◌, append_assoc}
+use Rattle.std.proofs.Math.Bool.{true, false}
+use mathlib.Core.List.{List, ◌++◌, append_assoc}
 use native.Mathlib.Omega.{arith}
 use Rattle.std.proofs.Math.ListN.{length, take, drop, replicate, length-append, length-drop, length-replicate, take-append-drop}
 use Rattle.std.proofs.lemmas.List.{replicate-append-replicate}
@@ -90,15 +90,12 @@ intact-summed k bs rest e =
 
 module _ (p : Profile) where
   -- mode and salt are five bytes, mode to padding as many as stand before the inner CRC
-  pub length-head : (lock : Lock) → length lock.salt ≡ 4 → length (head_of p lock) ≡ length_at
+  pub length-head : (lock : Option Lock) → IfSome lock (λ l. length l.salt ≡ 4) → length (head_of p lock) ≡ length_at
   unfolding head_of
-  length-head lock h = go lock.given
-    where
-      go : (given : Bool) → length (cond given (p.keyed ∷ lock.salt) (p.plain ∷ replicate 4 0)) ≡ length_at
-      go true = omega arith
-      go false = refl
+  length-head (Some lock) h = omega arith
+  length-head None h = refl
 
-  pub length-laid : (text : List ℕ) (lock : Lock) → length lock.salt ≡ 4 → length text ≤ p.room → length (laid_out p text lock) ≡ inner_at p
+  pub length-laid : (text : List ℕ) (lock : Option Lock) → IfSome lock (λ l. length l.salt ≡ 4) → length text ≤ p.room → length (laid_out p text lock) ≡ inner_at p
   unfolding laid_out
   length-laid text lock s h =
       simp length-append (omega (
@@ -109,15 +106,12 @@ module _ (p : Profile) where
       ))
 
   -- the cipher reaches from the length to the inner CRC, and a lock puts it there or leaves all as it is
-  locked-either : (lock : Lock) (P : (List ℕ → List ℕ) → Type 0) → P (covered p lock.key) → P (λ bs. bs) → P (locked p lock)
+  locked-either : (lock : Option Lock) (P : (List ℕ → List ℕ) → Type 0) → ((key : List ℕ) → P (covered p key)) → P (λ bs. bs) → P (locked p lock)
   unfolding locked
-  locked-either lock P keyed plain = go lock.given
-    where
-      go : (given : Bool) → P (λ bs. cond given (covered p lock.key bs) bs)
-      go true = keyed
-      go false = plain
+  locked-either (Some lock) P keyed plain = keyed lock.key
+  locked-either None P keyed plain = plain
 
-  module _ (lock : Lock) (bs : List ℕ) (h : outer_at p ≤ length bs) where
+  module _ (lock : Option Lock) (bs : List ℕ) (h : outer_at p ≤ length bs) where
     reach : ℕ
     reach = outer_at p - length_at
 
@@ -129,24 +123,24 @@ module _ (p : Profile) where
     unfolding covered reach
     length-locked =
         let part : length (take reach (drop length_at bs)) ≡ reach = length-take-le reach (drop length_at bs) (omega (arith, within, length-drop length_at bs)) in
-        locked-either lock (λ f. length (f bs) ≡ length bs) (length-on_part length_at reach _ bs within (length-encrypted lock.key _ 0 _ ∙ part)) refl
+        locked-either lock (λ f. length (f bs) ≡ length bs) (λ key. length-on_part length_at reach _ bs within (length-encrypted key _ 0 _ ∙ part)) refl
 
     pub locked-append : (rest : List ℕ) → locked p lock (bs ++ rest) ≡ locked p lock bs ++ rest
     unfolding covered reach
-    locked-append rest = locked-either lock (λ f. f (bs ++ rest) ≡ f bs ++ rest) (part-append length_at reach _ bs rest within) refl
+    locked-append rest = locked-either lock (λ f. f (bs ++ rest) ≡ f bs ++ rest) (λ key. part-append length_at reach _ bs rest within) refl
 
     pub locked-twice : locked p lock (locked p lock bs) ≡ bs
     unfolding covered reach
     locked-twice =
         locked-either lock (λ f. f (f bs) ≡ bs)
-        (part-twice length_at reach _ bs within (length-encrypted lock.key _ 0) (encrypted-twice lock.key _ 0)) refl
+        (λ key. part-twice length_at reach _ bs within (length-encrypted key _ 0) (encrypted-twice key _ 0)) refl
 
     -- mode and salt stay as they are
     pub take-locked : take length_at (locked p lock bs) ≡ take length_at bs
     unfolding covered on_part
     take-locked =
         locked-either lock (λ f. take length_at (f bs) ≡ take length_at bs)
-        (take_at (take length_at bs) _ length_at (length-take-le length_at bs (omega arith))) refl
+        (λ key. take_at (take length_at bs) _ length_at (length-take-le length_at bs (omega arith))) refl
 
 -- ---- reading
 

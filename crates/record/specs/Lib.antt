@@ -2,5 +2,6 @@ pub mod Record
 pub mod Given
 pub mod Answers
 pub mod Laws
+pub mod Held
 pub mod Opened
 pub mod Theorems

@@ -1,6 +1,6 @@
 -- A record taken apart: put through the cipher again it is what was laid, with its CRC-32 behind it, so that each part can be
 -- read off it.
-use Rattle.std.specs.Prelude.{◌≡◌, refl, false, get_or, take, drop}
+use Rattle.std.specs.Prelude.{◌≡◌, refl, get_or, take, drop, Option, Some, None, IfSome, Ok}
 use Rattle.std.proofs.Common.{sym, ◌∙◌, arith, take_at, get_or-take}
 use Rattle.std.proofs.Math.Path.{ap}
 use Rattle.std.proofs.Math.Bool.{true}
@@ -14,7 +14,7 @@ use Rattle.refusal.specs.declared.Refusal.{Refusal}
 use Rattle.crc32.specs.Ieee8023.{crc_of}
 use Rattle.utf8.specs.Rfc3629.{well_formed}
 use Rattle.record.specs.declared.Lock.{Lock}
-use Rattle.record.specs.Record.{Profile, salt_at, length_at, text_at, inner_at, outer_at, with_crc, intact, gives, head_of, laid_out, locked, record_of, text_in, padding_in, all_zero, sound, inside_of}
+use Rattle.record.specs.Record.{Profile, salt_at, length_at, text_at, inner_at, outer_at, with_crc, intact, head_of, laid_out, locked, record_of, text_in, padding_in, all_zero, sound, inside_of}
 use Rattle.seq.specs.Bytes.{big_endian, number_at}
 use Rattle.record.specs.Laws.{length-summed, intact-summed, length-head, length-laid, take-locked, locked-append, locked-twice, length-locked}
 
@@ -50,7 +50,7 @@ module _ (front text padding rest : List ℕ) (five : length front ≡ length_at
 
 -- ---- a record
 
-module _ (p : Profile) (text : List ℕ) (lock : Lock) (four : length lock.salt ≡ 4) (fits : length text ≤ p.room) where
+module _ (p : Profile) (text : List ℕ) (lock : Option Lock) (four : IfSome lock (λ l. length l.salt ≡ 4)) (fits : length text ≤ p.room) where
   inner : List ℕ
   inner = with_crc (laid_out p text lock)
 
@@ -84,17 +84,17 @@ module _ (p : Profile) (text : List ℕ) (lock : Lock) (four : length lock.salt 
   early : (k : ℕ) → k < length_at → get_or (record_of p text lock) k 0 ≡ get_or (head_of p lock) k 0
   early k h = sym (get_or-take length_at (record_of p text lock) k 0 h) ∙ ap (λ (l : List ℕ). get_or l k 0) head-there
 
-  pub mode-keyed : lock.given ≡ true → get_or (record_of p text lock) 0 0 ≡ p.keyed
+  pub mode-keyed : (l : Lock) → lock ≡ Some l → get_or (record_of p text lock) 0 0 ≡ p.keyed
   unfolding head_of
-  mode-keyed e = early 0 (omega arith) ∙ rw e
+  mode-keyed l e = early 0 (omega arith) ∙ rw e
 
-  pub mode-plain : lock.given ≡ false → get_or (record_of p text lock) 0 0 ≡ p.plain
+  pub mode-plain : lock ≡ None → get_or (record_of p text lock) 0 0 ≡ p.plain
   unfolding head_of
   mode-plain e = early 0 (omega arith) ∙ rw e
 
-  pub salt-there : lock.given ≡ true → number_at salt_at (record_of p text lock) ≡ number_at 0 lock.salt
+  pub salt-there : (l : Lock) → lock ≡ Some l → number_at salt_at (record_of p text lock) ≡ number_at 0 l.salt
   unfolding head_of number_at
-  salt-there e = rw (early 1 (omega arith), early 2 (omega arith), early 3 (omega arith), early 4 (omega arith), e)
+  salt-there l e = rw (early 1 (omega arith), early 2 (omega arith), early 3 (omega arith), early 4 (omega arith), e)
 
   -- and the rest once the cipher is undone
   opened : locked p lock (record_of p text lock) ≡ inner ++ outer
@@ -132,6 +132,6 @@ module _ (p : Profile) (text : List ℕ) (lock : Lock) (four : length lock.salt 
         le-leb (length text) p.room fits,
       )
 
-  pub inside-opened : (wrong : Refusal) → well_formed text ≡ true → inside_of p wrong (locked p lock (record_of p text lock)) ≡ gives text
+  pub inside-opened : (wrong : Refusal) → well_formed text ≡ true → inside_of p wrong (locked p lock (record_of p text lock)) ≡ Ok text
   unfolding inside_of
   inside-opened wrong good = rw (sound-opened good, text-opened)

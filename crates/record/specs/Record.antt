@@ -1,6 +1,6 @@
 -- The record (section 6 of the scope): a byte for the mode, four for the salt, one for the length, the text
 -- and its padding, and two CRC-32; how it is built and how it is read. Definitions only.
-use Rattle.std.specs.Prelude.{Bool, true, not, cond, ◌&&◌, ◌||◌, List, [], ◌∷◌, ◌++◌, ℕ, ◌+◌, ◌-◌, leb, eqb, length, get_or, take, drop, replicate}
+use Rattle.std.specs.Prelude.{Bool, true, not, cond, ◌&&◌, ◌||◌, List, [], ◌∷◌, ◌++◌, ℕ, ◌+◌, ◌-◌, leb, eqb, length, get_or, take, drop, replicate, Option, Some, None, is_some, is_none, Result, Ok, Err}
 use Rattle.seq.specs.Lists.{on_part}
 use Rattle.refusal.specs.declared.Refusal.{Refusal}
 use Rattle.refusal.specs.declared.Refusal.TheVariants.{
@@ -65,36 +65,32 @@ intact k bs = eqb (number_at k bs) (crc_of (take k bs))
 unfoldable pub covered : Profile → List ℕ → List ℕ → List ℕ
 covered p key bs = on_part length_at (outer_at p - length_at) (encrypted key (replicate 12 0) 0) bs
 
--- ---- the answer: a refusal, or bytes
-
-pub data Outcome : Type 0 where
-  refused : Refusal → Outcome
-  gives : List ℕ → Outcome
-
--- ---- building
+-- ---- building: with a lock, or plain
 
 -- mode and salt
-unfoldable pub head_of : Profile → Lock → List ℕ
-head_of p lock = cond lock.given (p.keyed ∷ lock.salt) (p.plain ∷ replicate 4 0)
+unfoldable pub head_of : Profile → Option Lock → List ℕ
+head_of p (Some lock) = p.keyed ∷ lock.salt
+head_of p None = p.plain ∷ replicate 4 0
 
 -- mode, salt, length, text and padding
-unfoldable pub laid_out : Profile → List ℕ → Lock → List ℕ
+unfoldable pub laid_out : Profile → List ℕ → Option Lock → List ℕ
 laid_out p text lock = head_of p lock ++ (length text ∷ text ++ replicate (p.room - length text) 0)
 
-unfoldable pub locked : Profile → Lock → List ℕ → List ℕ
-locked p lock bs = cond lock.given (covered p lock.key bs) bs
+unfoldable pub locked : Profile → Option Lock → List ℕ → List ℕ
+locked p (Some lock) bs = covered p lock.key bs
+locked p None bs = bs
 
 -- the inner CRC, then the cipher, then the outer CRC
-unfoldable pub record_of : Profile → List ℕ → Lock → List ℕ
+unfoldable pub record_of : Profile → List ℕ → Option Lock → List ℕ
 record_of p text lock = with_crc (locked p lock (with_crc (laid_out p text lock)))
 
-unfoldable pub built_of : Profile → List ℕ → Lock → Outcome
+unfoldable pub built_of : Profile → List ℕ → Option Lock → Result (List ℕ) Refusal
 built_of p text lock =
-    cond (not (leb (length text) p.room)) (refused (TextTooLong (length text)))
-    (cond (not (counted text)) (refused TextNotUtf8)
-    (gives (record_of p text lock)))
+    cond (not (leb (length text) p.room)) (Err (TextTooLong (length text)))
+    (cond (not (counted text)) (Err TextNotUtf8)
+    (Ok (record_of p text lock)))
 
--- ---- reading
+-- ---- reading: with a key, or with none
 
 unfoldable pub text_in : List ℕ → List ℕ
 text_in bs = take (get_or bs length_at 0) (drop text_at bs)
@@ -110,15 +106,19 @@ all_zero (b ∷ bs) = eqb b 0 && all_zero bs
 unfoldable pub sound : Profile → List ℕ → Bool
 sound p bs = leb (get_or bs length_at 0) p.room && all_zero (padding_in p bs) && intact (inner_at p) bs && well_formed (text_in bs)
 
-unfoldable pub inside_of : Profile → Refusal → List ℕ → Outcome
-inside_of p wrong bs = cond (not (sound p bs)) (refused wrong) (gives (text_in bs))
+unfoldable pub inside_of : Profile → Refusal → List ℕ → Result (List ℕ) Refusal
+inside_of p wrong bs = cond (not (sound p bs)) (Err wrong) (Ok (text_in bs))
 
-unfoldable pub parsed_of : Profile → List ℕ → Key → Outcome
+-- the text under the key, or in the clear
+unfoldable pub opened_of : Profile → List ℕ → Option Key → Result (List ℕ) Refusal
+opened_of p bs (Some key) = inside_of p WrongPasswordOrDamaged (covered p key.bytes bs)
+opened_of p bs None = inside_of p Damaged bs
+
+unfoldable pub parsed_of : Profile → List ℕ → Option Key → Result (List ℕ) Refusal
 parsed_of p bs key =
     let mode = get_or bs 0 0 in
-    cond (not (intact (outer_at p) bs)) (refused NoWatermark)
-    (cond (not (eqb mode p.plain || eqb mode p.keyed)) (refused (UnsupportedVersion mode))
-    (cond (eqb mode p.plain && key.given) (refused NotEncrypted)
-    (cond (eqb mode p.keyed && not key.given) (refused (PasswordRequired (number_at salt_at bs)))
-    (cond key.given (inside_of p WrongPasswordOrDamaged (covered p key.bytes bs))
-    (inside_of p Damaged bs)))))
+    cond (not (intact (outer_at p) bs)) (Err NoWatermark)
+    (cond (not (eqb mode p.plain || eqb mode p.keyed)) (Err (UnsupportedVersion mode))
+    (cond (eqb mode p.plain && is_some key) (Err NotEncrypted)
+    (cond (eqb mode p.keyed && is_none key) (Err (PasswordRequired (number_at salt_at bs)))
+    (opened_of p bs key))))

@@ -1,17 +1,18 @@
 // The record: 46 bytes that hold a text of at most 32, in the clear or under a key. From the scope, section 6, which
 // specs/Record.antt states. Here are its places, what it is written and read with, and what writing (`record_build`) and
-// reading (`record_parse`) share: the cipher, the CRC-32 and the reading of what is refused.
+// reading (`record_parse`) share: the cipher, the CRC-32 and the text that was read.
 #![tactic(auto)]
 
 pub mod crc;
 
-ghost use Rattle.std.specs.Prelude.{◌≡◌, ◌≤◌, length, replicate};
+ghost use Rattle.std.specs.Prelude.{◌≡◌, ◌≤◌, [], length, replicate};
 ghost use Rattle.chacha20.specs.Rfc8439.{encrypted};
 ghost use Rattle.keystream.specs.Apply.{left_at};
-ghost use Rattle.record.specs.Record.{Outcome, short, size, covered};
-ghost use Rattle.record.specs.Answers.{read_as};
+ghost use Rattle.record.specs.Record.{short, size, covered};
+ghost use Rattle.record.specs.Answers.{text_given, padded};
 
-use refusal::{Answer, Refusal};
+use refusal::Refusal;
+use std::marker::Model;
 
 // Byte 0 is the mode.
 pub const PLAIN: u8 = 0x31;
@@ -33,54 +34,108 @@ pub const OUTER: usize = INNER + 4;
 
 pub const SIZE: usize = OUTER + 4;
 
-// What a text is written with: a key and the salt that goes into the record, if one is given.
+// What a text is written with: a key, and the salt that goes into the record. A record without a lock is plain.
 #[derive(Clone, Copy)]
 pub struct Lock {
-    pub given: bool,
     pub key: [u8; 32],
     pub salt: [u8; 4],
 }
 
-// What a record is read with.
+// What a record under a lock is read with.
 #[derive(Clone, Copy)]
 pub struct Key {
-    pub given: bool,
     pub bytes: [u8; 32],
 }
 
-// A text, its length and zeros after it; length 0 and zeros where it is refused.
+// A text of at most 32 bytes, with zeros after it.
 #[derive(Clone, Copy)]
-pub struct Reading {
-    pub text: [u8; ROOM],
-    pub length: usize,
-    pub answer: Answer,
+pub struct Text {
+    bytes: [u8; ROOM],
+    len: usize,
 }
 
-// The keystream put onto the bytes from its start. It has as many bytes, so that the answer is never
-// KeystreamEnd.
+// A contract sees the text's bytes.
+impl Model for Text {
+    ghost use Rattle.std.specs.Prelude.{◌≡◌, ◌≤◌, ◌-◌, ◌++◌, ℕ, List, length, replicate, take};
+    ghost use Rattle.record.specs.Held.{text_held};
+
+    ghost Value = { List ℕ };
+
+    ghost view = { λ t. take t.len t.bytes };
+
+    ghost invariant = { λ t. (t.len ≤ 32) × (length t.bytes ≡ 32) × (t.bytes ≡ take t.len t.bytes ++ replicate (32 - t.len) 0) };
+
+    ghost inverse = { λ text. record { bytes = text ++ replicate (32 - length text) 0; len = length text } };
+
+    ghost inverse_ok = { λ a h. text_held a h };
+}
+
+impl Text {
+    pub fn empty() -> Text
+        ensures { result ≡ [] }
+    {
+        Text {
+            bytes: [0; ROOM],
+            len: 0,
+        }
+    }
+
+    pub fn new(text: &[u8]) -> Text
+        requires { length text.now ≤ short.room }
+        ensures { result ≡ text.now }
+    {
+        let mut bytes = [0; ROOM];
+        seq::copy_bytes(text, &mut bytes, 0);
+        Text {
+            bytes,
+            len: text.len(),
+        }
+    }
+
+    pub fn as_slice(&self) -> &[u8]
+        ensures { result.now ≡ self.now }
+    {
+        &self.bytes[..self.len]
+    }
+
+    pub fn len(&self) -> usize
+        ensures same { result ≡ length self.now }
+        ensures within { result ≤ short.room }
+    {
+        self.len
+    }
+
+    // The text with zeros after it.
+    pub fn bytes(&self) -> [u8; ROOM]
+        ensures { result ≡ padded self.now }
+    {
+        self.bytes
+    }
+}
+
+// The text of an answer, and none where it is refused.
+pub fn text_given(answer: Result<Text, Refusal>) -> Text
+    ensures { result ≡ text_given answer }
+{
+    match answer {
+        Ok(text) => text,
+        Err(_) => Text::empty(),
+    }
+}
+
+// The keystream put onto the bytes from its start. It has as many bytes, so that it never ends too early.
+#[tactic(auto, unfolding(keystream::specs::Apply::applied_of, keystream::specs::Apply::bytes_after))]
 fn apply_cipher(key: &[u8; 32], bytes: &mut [u8])
     requires { length bytes.old ≤ left_at 0 }
     ensures { bytes.new ≡ encrypted key.now (replicate 12 0) 0 bytes.old }
 {
-    let nonce = [0u8; 12];
-    keystream::apply(key, &nonce, 0, bytes);
+    keystream::apply(key, &[0; 12], 0, bytes).unwrap();
 }
 
 // Length to inner CRC put under a key, or taken from under it.
-pub fn cover(bytes: &mut [u8], key: [u8; 32])
+pub fn cover(bytes: &mut [u8], key: &[u8; 32])
     requires { length bytes.old ≡ size short }
-    ensures { bytes.new ≡ covered short key bytes.old }
+    ensures { bytes.new ≡ covered short key.now bytes.old }
 {
-    apply_cipher(&key, &mut bytes[LENGTH..OUTER]);
-}
-
-// The reading of what is refused.
-pub fn not_read(r: Refusal) -> Reading
-    ensures { result ≡ read_as (Outcome.refused r) }
-{
-    Reading {
-        text: [0u8; ROOM],
-        length: 0,
-        answer: Answer::Refused(r),
-    }
+    apply_cipher(key, &mut bytes[LENGTH..OUTER]);
 }
