@@ -64,7 +64,7 @@ abbrev pub given_for : {A : Type 0} → Result A Refusal → ℕ
 given_for (Ok _) = 0
 given_for (Err r) = given_of r
 
--- the first of two answers that is a refusal
-abbrev pub first : {A : Type 0} → Result A Refusal → Result A Refusal → Result A Refusal
+-- the first of two answers that is a refusal, else the second
+abbrev pub first : {A B : Type 0} → Result A Refusal → Result B Refusal → Result B Refusal
 first (Ok _) b = b
 first (Err r) b = Err r

@@ -1,22 +1,19 @@
 -- Laws on the line's definitions: a number's last digit and those in front of it, how long the pieces are, and that a text that was
 -- read fits.
-use Rattle.std.specs.Prelude.{◌≡◌, refl, Bool, true, false, not, cond, ◌&&◌, ◌||◌, List, [], ◌∷◌, ◌++◌, ℕ, zero, suc, ◌-◌, ◌*◌, ◌/◌, ◌%◌, ◌^◌, ◌≤◌, ◌<◌, eqb, ltb, length, get_or, drop, replicate, Float}
-use Rattle.std.proofs.Common.{sym, ◌∙◌, ap, pow-suc, arith, length-append, length-take, take_at, lt-ltb, le-ltb, ltb-true, ltb-false}
-use Rattle.std.proofs.lemmas.List.{length-replicate}
+use Rattle.std.specs.Prelude.{◌≡◌, refl, Bool, true, false, not, cond, ◌&&◌, ◌||◌, List, [], ◌∷◌, ◌++◌, ℕ, zero, suc, ◌*◌, ◌/◌, ◌%◌, ◌^◌, ◌≤◌, ◌<◌, eqb, ltb, length, get_or, drop, Float, Option, Some, None, is_some, is_none, Result, Ok, Err}
+use Rattle.std.proofs.Common.{sym, ◌∙◌, ap, pow-suc, arith, length-append, length-take, lt-ltb, le-ltb, ltb-true, ltb-false}
 use Rattle.seq.specs.Lists.{tab}
 use Rattle.refusal.specs.declared.Refusal.{Refusal}
 use Rattle.refusal.specs.declared.Refusal.TheVariants.{BadLength, NoWatermark, UnsupportedVersion, NotEncrypted, PasswordRequired, Damaged}
 use Rattle.refusal.specs.declared.Refusal.TheVariants.{WrongPasswordOrDamaged}
 use Rattle.record.specs.declared.Key.{Key}
-use Rattle.record.specs.declared.Reading.{Reading}
-use Rattle.record.specs.Record.{short, salt_at, length_at, text_at, outer_at, intact, covered, Outcome, refused, gives, text_in, sound, inside_of, parsed_of}
+use Rattle.record.specs.Record.{short, salt_at, length_at, text_at, outer_at, intact, covered, text_in, sound, inside_of, opened_of, parsed_of}
 use Rattle.seq.specs.Bytes.{number_at}
-use Rattle.record.specs.Answers.{read_as}
 use Rattle.record.specs.Laws.{sound-length}
 use Rattle.picture.specs.Sizes.{block_count}
-use Rattle.extract.specs.Extract.{record_outcome, parsed_from, votes_outcome, votes_reading}
-use Rattle.report.specs.Input.{vote_from, no_key, bytes_reading}
-use Rattle.report.specs.Line.{digit, decimal_digits, decimal, pairs, hex, room_of_line, line_as, Lends}
+use Rattle.extract.specs.Extract.{record_reading, parsed_from, votes_reading}
+use Rattle.report.specs.Input.{vote_from, bytes_reading}
+use Rattle.report.specs.Line.{ascii, digit, decimal_digits, decimal, pairs, hex}
 
 -- ---- numbers
 
@@ -71,68 +68,61 @@ unfolding hex
 length-hex [] m h g = omega arith
 length-hex (b ∷ bs) m h g = omega (arith, length_pairs (b ∷ bs))
 
+pub hex_none : (bs : List ℕ) → length bs ≡ 0 → hex bs ≡ ascii "-"
+unfolding hex
+hex_none [] e = refl
+hex_none (b ∷ bs) e = absurd (omega arith)
+
+pub hex_some : (bs : List ℕ) → (length bs ≡ 0 → ⊥) → hex bs ≡ pairs bs
+unfolding hex
+hex_some [] n = absurd (n refl)
+hex_some (b ∷ bs) n = refl
+
 -- ---- what was read
 
--- a reading has room for 32 bytes, and its text fits
-pub record FitsLine (r : Reading) : Type 0 where
-  pub whole : length r.text ≡ short.room
-  pub within : r.length ≤ short.room
+-- a text that was read has at most 32 bytes
+abbrev pub FitsLine : Result (List ℕ) Refusal → Type 0
+FitsLine (Ok text) = length text ≤ short.room
+FitsLine (Err _) = Unit {0}
 
-record Short (o : Outcome) : Type 0 where
-  fits : FitsLine (read_as o)
-
-none : (r : Refusal) → Short (refused r)
-none r = record { fits = record { whole = refl; within = omega arith } }
-
-text : (bs : List ℕ) → length bs ≤ short.room → Short (gives bs)
-text bs h = record {
-  fits = record {
-    whole = simp (length-append, length-replicate) (omega arith);
-    within = h;
-  };
-}
-
-either : (t : Bool) (a b : Outcome) → Short a → Short b → Short (cond t a b)
+either : (t : Bool) (a b : Result (List ℕ) Refusal) → FitsLine a → FitsLine b → FitsLine (cond t a b)
 either true a b h g = h
 either false a b h g = g
 
-inside-short : (wrong : Refusal) (bs : List ℕ) → Short (inside_of short wrong bs)
+inside-short : (wrong : Refusal) (bs : List ℕ) → FitsLine (inside_of short wrong bs)
 unfolding inside_of text_in
 inside-short wrong bs = go (sound short bs) refl
   where
-    go : (t : Bool) → sound short bs ≡ t → Short (cond (not t) (refused wrong) (gives (text_in bs)))
-    go true t = text (text_in bs) (omega (arith, sound-length short bs t, length-take (get_or bs length_at 0) (drop text_at bs)))
-    go false t = none wrong
+    go : (t : Bool) → sound short bs ≡ t → FitsLine (cond (not t) (Err wrong) (Ok (text_in bs)))
+    go true t = omega (arith, sound-length short bs t, length-take (get_or bs length_at 0) (drop text_at bs))
+    go false t = tt
 
-parsed-short : (bs : List ℕ) (key : Key) → Short (parsed_of short bs key)
+opened-short : (bs : List ℕ) (key : Option Key) → FitsLine (opened_of short bs key)
+unfolding opened_of
+opened-short bs (Some key) = inside-short WrongPasswordOrDamaged (covered short key.bytes bs)
+opened-short bs None = inside-short Damaged bs
+
+parsed-short : (bs : List ℕ) (key : Option Key) → FitsLine (parsed_of short bs key)
 unfolding parsed_of
 parsed-short bs key =
     let mode = get_or bs 0 0 in
-    either (not (intact (outer_at short) bs)) _ _ (none NoWatermark)
-    (either (not (eqb mode short.plain || eqb mode short.keyed)) _ _ (none (UnsupportedVersion mode))
-    (either (eqb mode short.plain && key.given) _ _ (none NotEncrypted)
-    (either (eqb mode short.keyed && not key.given) _ _ (none (PasswordRequired (number_at salt_at bs)))
-    (either key.given _ _ (inside-short WrongPasswordOrDamaged (covered short key.bytes bs)) (inside-short Damaged bs)))))
+    either (not (intact (outer_at short) bs)) (Err NoWatermark) _ tt
+    (either (not (eqb mode short.plain || eqb mode short.keyed)) (Err (UnsupportedVersion mode)) _ tt
+    (either (eqb mode short.plain && is_some key) (Err NotEncrypted) _ tt
+    (either (eqb mode short.keyed && is_none key) (Err (PasswordRequired (number_at salt_at bs))) _ tt (opened-short bs key))))
 
-votes-short : (votes : List Float) (key : Key) → Short (votes_outcome votes key)
-unfolding votes_outcome
-votes-short votes key = go (record_outcome votes)
+votes-short : (votes : List Float) (key : Option Key) → FitsLine (votes_reading votes key)
+unfolding votes_reading
+votes-short votes key = go (record_reading votes)
   where
-    go : (o : Outcome) → Short (parsed_from o key)
-    go (refused r) = none r
-    go (gives bs) = parsed-short bs key
+    go : (o : Result (List ℕ) Refusal) → FitsLine (parsed_from o key)
+    go (Err r) = tt
+    go (Ok bs) = parsed-short bs key
 
 pub bytes_fit : (bytes : List ℕ) → FitsLine (bytes_reading bytes)
-unfolding bytes_reading votes_reading
+unfolding bytes_reading
 bytes_fit bytes = go (eqb (length bytes) 4096)
   where
-    go : (t : Bool) → FitsLine (cond (not t) (read_as (refused (BadLength (length bytes)))) (votes_reading (tab (vote_from bytes) block_count) no_key))
-    go true = (votes-short (tab (vote_from bytes) block_count) no_key).fits
-    go false = (none (BadLength (length bytes))).fits
-
--- ---- the code's line
-
-pub lends : (bs : List ℕ) → Lends (line_as bs)
-lends bs =
-    let rest : List ℕ = replicate (room_of_line - length bs) 0 in
-    (omega (arith, length-append bs rest), ap length (sym (take_at bs rest (length bs) refl)))
+    go : (t : Bool) → FitsLine (cond (not t) (Err (BadLength (length bytes))) (votes_reading (tab (vote_from bytes) block_count) None))
+    go true = votes-short (tab (vote_from bytes) block_count) None
+    go false = tt

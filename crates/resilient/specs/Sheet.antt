@@ -1,12 +1,11 @@
 -- The sample sheet of the scope (section 21): every line that is marked as proved, in one statement. Definitions only.
-use Rattle.std.specs.Prelude.{◌≡◌, List, [], ◌∷◌, ◌++◌, ℕ, ◌+◌, ◌*◌, pos, negsuc, replicate, get_or, Float}
+use Rattle.std.specs.Prelude.{◌≡◌, List, [], ◌∷◌, ◌++◌, ℕ, ◌+◌, ◌*◌, pos, negsuc, replicate, get_or, Float, Option, Result, Ok, Err}
 use Rattle.std.specs.Float.{nan, binary32}
 use Rattle.std.specs.Float.Ieee.{of_bits, sub}
 use Rattle.float.specs.Base.{zero+, two_to, minus_two_to}
 use Rattle.float.specs.Calls.{floor}
+use Rattle.refusal.specs.declared.Refusal.{Refusal}
 use Rattle.refusal.specs.declared.Refusal.TheVariants.{TextTooLong, ImageTooSmall, ImageTooLarge}
-use Rattle.refusal.specs.declared.Answer.{Answer}
-use Rattle.refusal.specs.declared.Answer.TheVariants.{Done, Refused}
 use Rattle.record.specs.declared.Lock.{Lock}
 use Rattle.record_build.specs.Answers.{letters}
 use Rattle.encoder.specs.Ccsds131.{encode_of}
@@ -18,7 +17,7 @@ use Rattle.resample_up.specs.Change.{sheet_change}
 use Rattle.resilient.specs.Resilient.{write_answer}
 
 -- the answer to writing a text into a picture with all its samples and the work area that it needs
-abbrev pub writing : List ℕ → Lock → ℕ → ℕ → Answer
+abbrev pub writing : List ℕ → Option Lock → ℕ → ℕ → Result (Unit {0}) Refusal
 writing text lock width height =
     write_answer text lock (record { width = width; height = height; channels = 3 }) (width * height * 3) (131072 + 2 * (width * height))
 
@@ -31,11 +30,11 @@ abbrev pub four_terms : List Float
 four_terms = of_bits binary32 0x3e8d_edb7 ∷ of_bits binary32 0x3f0e_4925 ∷ of_bits binary32 0xbe77_db6e ∷ of_bits binary32 0xbeb2_1249 ∷ []
 
 pub record Sheet : Type 0 where
-  pub text_of_32 : (lock : Lock) → writing (letters 32) lock 512 512 ≡ Done
-  pub text_of_33 : (lock : Lock) → writing (letters 33) lock 512 512 ≡ Refused (TextTooLong 33)
-  pub shorter_512 : (lock : Lock) → writing [] lock 512 8192 ≡ Done
-  pub shorter_511 : (lock : Lock) → writing [] lock 511 8192 ≡ Refused (ImageTooSmall 511)
-  pub longer_8193 : (lock : Lock) → writing [] lock 512 8193 ≡ Refused (ImageTooLarge 8193)
+  pub text_of_32 : (lock : Option Lock) → writing (letters 32) lock 512 512 ≡ Ok tt
+  pub text_of_33 : (lock : Option Lock) → writing (letters 33) lock 512 512 ≡ Err (TextTooLong 33)
+  pub shorter_512 : (lock : Option Lock) → writing [] lock 512 8192 ≡ Ok tt
+  pub shorter_511 : (lock : Option Lock) → writing [] lock 511 8192 ≡ Err (ImageTooSmall 511)
+  pub longer_8193 : (lock : Option Lock) → writing [] lock 512 8193 ≡ Err (ImageTooLarge 8193)
   pub zeros : encode_of (replicate 46 0) ≡ replicate 748 0
   pub byte_0 : encode_of (0x80 ∷ replicate 45 0) ≡ one_bit ++ replicate 734 0
   pub byte_45 : encode_of (replicate 45 0 ++ (0x01 ∷ [])) ≡ replicate 734 0 ++ one_bit

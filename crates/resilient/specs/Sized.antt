@@ -1,10 +1,9 @@
 -- A picture that is admitted has the size that resampling asks for.
-use Rattle.std.specs.Prelude.{◌≡◌, List, ℕ, ◌+◌, ◌*◌, ◌≤◌, ◌<◌, length}
+use Rattle.std.specs.Prelude.{◌≡◌, List, ℕ, ◌+◌, ◌*◌, ◌≤◌, ◌<◌, length, Ok}
 use Rattle.std.proofs.Common.{sym, ap, ◌∙◌, mul_assoc, mul_comm, arith}
 use Rattle.std.proofs.Math.Nat.{mul-le-mul_right}
 use Rattle.picture.specs.Sizes.{Sized, plane_size}
 use Rattle.picture.specs.declared.Picture.{Picture}
-use Rattle.refusal.specs.declared.Answer.TheVariants.{Done}
 use Rattle.admission.specs.Admission.{room_of, read_admission}
 use Rattle.admission.specs.Admitted.{Admitted, read-admitted}
 
@@ -30,7 +29,7 @@ module _ (parts : ℕ) (p : Picture) (samples : List ℕ) (work : ℕ) (a : Admi
   admitted-room h = omega (arith, a.room, mul-le-mul_right (plane_size + p.width * p.height) h)
 
 -- a picture that is admitted for reading
-pub read_ready : (p : Picture) (samples : List ℕ) (work : ℕ) → read_admission p (length samples) work ≡ Done
+pub read_ready : (p : Picture) (samples : List ℕ) (work : ℕ) → read_admission p (length samples) work ≡ Ok tt
     → Sized p.width p.height p.channels samples × (plane_size ≤ work)
 read_ready p samples work e =
     let may = read-admitted p (length samples) work e in

@@ -2,32 +2,12 @@
 // or `refused 8 0`.
 #![tactic(auto)]
 
-ghost use Rattle.std.specs.Io.{ReadsAtMost};
-
 use report::INPUT;
 use std::io;
 use std::io::Read;
 
-// Reads until `bytes` is full or the input ends, and answers how many stand at its start.
-fn read_full(input: &mut impl Read, bytes: &mut [u8]) -> io::Result<usize>
-    ensures { ReadsAtMost result bytes.new }
-{
-    let mut count = 0;
-    while count < bytes.len() {
-        let more = input.read(&mut bytes[count..])?;
-        if more == 0 {
-            break;
-        }
-        count += more;
-    }
-    Ok(count)
-}
-
 fn main(rt: HostRuntime) -> io::Result<()> {
-    let mut bytes = [0u8; INPUT];
-    let count = read_full(&mut rt.reader(), &mut bytes)?;
-    let answer = report::say(&bytes[..count]);
-    let line = answer.bytes;
-    let length = answer.length;
-    rt.write_all(&line[..length])
+    let mut bytes = Vec::new(rt.alloc());
+    rt.reader().take(INPUT as u64).read_to_end(&mut bytes)?;
+    rt.write_all(report::say(&bytes).as_slice())
 }
