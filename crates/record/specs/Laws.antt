@@ -148,6 +148,6 @@ and_left : (a b : Bool) → a && b ≡ true → a ≡ true
 and_left true b e = refl
 and_left false b e = e
 
-pub sound-length : (p : Profile) (bs : List ℕ) → sound p bs ≡ true → get_or bs length_at 0 ≤ p.room
+pub sound_length : (p : Profile) (bs : List ℕ) → sound p bs ≡ true → get_or bs length_at 0 ≤ p.room
 unfolding sound
-sound-length p bs e = leb-true _ _ (and_left _ _ (and_left _ _ (and_left _ _ e)))
+sound_length p bs e = leb-true _ _ (and_left _ _ (and_left _ _ (and_left _ _ e)))

@@ -21,7 +21,6 @@ use Rattle.record.specs.Laws.{length-summed, intact-summed, length-head, length-
 -- ---- the parts of what is laid, whatever stands behind
 
 zeros-are : (n : ℕ) → all_zero (replicate n 0) ≡ true
-unfolding all_zero
 zeros-are zero = refl
 zeros-are (suc n) = zeros-are n
 

@@ -1,6 +1,7 @@
 -- The record (section 6 of the scope): a byte for the mode, four for the salt, one for the length, the text
 -- and its padding, and two CRC-32; how it is built and how it is read. Definitions only.
-use Rattle.std.specs.Prelude.{Bool, true, not, cond, ◌&&◌, ◌||◌, List, [], ◌∷◌, ◌++◌, ℕ, ◌+◌, ◌-◌, leb, eqb, length, get_or, take, drop, replicate, Option, Some, None, is_some, is_none, Result, Ok, Err}
+use Rattle.std.specs.Prelude.{Bool, not, cond, ◌&&◌, ◌||◌, List, ◌∷◌, ◌++◌, ℕ, ◌+◌, ◌-◌, leb, eqb, length, get_or, take, drop, replicate, Option, Some, None, is_some, is_none, Result, Ok, Err}
+use Rattle.std.specs.List.{list_all}
 use Rattle.seq.specs.Lists.{on_part}
 use Rattle.refusal.specs.declared.Refusal.{Refusal}
 use Rattle.refusal.specs.declared.Refusal.TheVariants.{
@@ -98,9 +99,8 @@ text_in bs = take (get_or bs length_at 0) (drop text_at bs)
 unfoldable pub padding_in : Profile → List ℕ → List ℕ
 padding_in p bs = take (p.room - get_or bs length_at 0) (drop (text_at + get_or bs length_at 0) bs)
 
-unfoldable pub all_zero : List ℕ → Bool
-all_zero [] = true
-all_zero (b ∷ bs) = eqb b 0 && all_zero bs
+abbrev pub all_zero : List ℕ → Bool
+all_zero bs = list_all (λ b. eqb b 0) bs
 
 -- the inside is right: length, padding, inner CRC, UTF-8
 unfoldable pub sound : Profile → List ℕ → Bool

@@ -4,57 +4,39 @@
 
 ghost use Rattle.std.specs.Prelude.{◌≡◌, length};
 ghost use Rattle.record.specs.Record.{short, size, all_zero, sound, inside_of};
-ghost use Rattle.record.specs.Answers.{read_as};
 
-use record::{INNER, LENGTH, ROOM, Reading, TEXT, crc, not_read};
-use refusal::{Answer, Refusal};
+use record::{INNER, LENGTH, ROOM, TEXT, Text, crc};
+use refusal::Refusal;
 
 // Whether the padding is what it must be.
 fn all_zero(bytes: &[u8]) -> bool
     ensures { result ≡ all_zero bytes.now }
 {
-    for i in 0..bytes.len() {
-        if bytes[i] != 0 {
-            return false;
-        }
-    }
-    true
+    bytes.iter().all(|b| *b == 0)
 }
 
 // Whether length, padding, inner CRC and text are right.
+#[tactic(auto, unfolding(record::specs::Record::sound, record::specs::Record::text_in, record::specs::Record::padding_in))]
 pub fn sound(bytes: &[u8]) -> bool
     requires { length bytes.now ≡ size short }
     ensures { result ≡ sound short bytes.now }
 {
-    let length = bytes[LENGTH] as usize;
-    if ROOM < length {
-        return false;
-    }
-    let end = TEXT + length;
-    if !all_zero(&bytes[end..INNER]) {
-        return false;
-    }
-    if !crc::intact(bytes, INNER) {
-        return false;
-    }
-    utf8::well_formed(&bytes[TEXT..end])
+    let length = usize::from(bytes[LENGTH]);
+    length <= ROOM
+        && all_zero(&bytes[TEXT + length..INNER])
+        && crc::intact(bytes, INNER)
+        && utf8::well_formed(&bytes[TEXT..TEXT + length])
 }
 
 // The text of a record that is in the clear, and where the inside is not right, that refusal.
-pub fn inside(bytes: &[u8], wrong: Refusal) -> Reading
+#[tactic(auto, using(record::specs::Laws::sound_length), unfolding(record::specs::Record::inside_of, record::specs::Record::text_in))]
+pub fn inside(bytes: &[u8], wrong: Refusal) -> Result<Text, Refusal>
     requires { length bytes.now ≡ size short }
-    ensures { result ≡ read_as (inside_of short wrong bytes.now) }
+    ensures { result ≡ inside_of short wrong bytes.now }
 {
     if !sound(bytes) {
-        return not_read(wrong);
+        return Err(wrong);
     }
-    let length = bytes[LENGTH] as usize;
-    let end = TEXT + length;
-    let mut text = [0u8; ROOM];
-    seq::copy_bytes(&bytes[TEXT..end], &mut text, 0);
-    Reading {
-        text,
-        length,
-        answer: Answer::Done,
-    }
+    let length = usize::from(bytes[LENGTH]);
+    Ok(Text::new(&bytes[TEXT..TEXT + length]))
 }
