@@ -13,7 +13,9 @@ ghost use Rattle.block.specs.Plane.{line_at, load_of, stored_of};
 ghost use Rattle.picture.specs.Sizes.{block_count, plane_size};
 
 use float::{floor_f32, min_f32, round_f32};
-use seq::copy_floats;
+
+// The places of the coefficients (1,1), (1,2), (2,1) and (2,2), which carry the bit.
+const COEFFICIENTS: [usize; 4] = [9, 10, 17, 18];
 
 fn marked(v: f32, u: f32, half: f32) -> f32
     ensures { result ≡ marked_of v u half }
@@ -27,10 +29,11 @@ pub fn mark_block(values: &mut [f32; 64], u: [f32; 4], bit: u8)
     ensures { values.new ≡ marked_block u bit values.old }
 {
     let half = bit as f32 * 0.5;
-    values[9] = marked(values[9], u[0], half);
-    values[10] = marked(values[10], u[1], half);
-    values[17] = marked(values[17], u[2], half);
-    values[18] = marked(values[18], u[3], half);
+    let [a, b, c, d] = COEFFICIENTS;
+    values[a] = marked(values[a], u[0], half);
+    values[b] = marked(values[b], u[1], half);
+    values[c] = marked(values[c], u[2], half);
+    values[d] = marked(values[d], u[3], half);
 }
 
 fn vote_term(v: f32, u: f32) -> f32
@@ -52,11 +55,12 @@ fn mean(a: f32, b: f32, c: f32, d: f32) -> f32
 pub fn block_vote(values: &[f32; 64], u: [f32; 4]) -> f32
     ensures { result ≡ vote_of u values.now }
 {
+    let [a, b, c, d] = COEFFICIENTS;
     mean(
-        vote_term(values[9], u[0]),
-        vote_term(values[10], u[1]),
-        vote_term(values[17], u[2]),
-        vote_term(values[18], u[3]),
+        vote_term(values[a], u[0]),
+        vote_term(values[b], u[1]),
+        vote_term(values[c], u[2]),
+        vote_term(values[d], u[3]),
     )
 }
 
@@ -74,23 +78,11 @@ pub fn load_block(plane: &[f32], b: usize) -> [f32; 64]
     ensures { result ≡ load_of plane.now b }
 {
     let mut values = [0.0f32; 64];
-    for r in 0..8usize {
+    for r in 0..8 {
         let at = line_at(b, r);
-        let end = at + 8;
-        copy_floats(&plane[at..end], &mut values, r * 8);
+        values[r * 8..r * 8 + 8].copy_from_slice(&plane[at..at + 8]);
     }
     values
-}
-
-fn block_line(values: &[f32; 64], r: usize) -> [f32; 8]
-    requires { r < 8 }
-    ensures { result ≡ block_line (cell values.now) r }
-{
-    let mut line = [0.0f32; 8];
-    for c in 0..8usize {
-        line[c] = values[r * 8 + c];
-    }
-    line
 }
 
 // Block b of the plane becomes the values; every other place of what is lent stays.
@@ -98,9 +90,8 @@ pub fn store_block(plane: &mut [f32], b: usize, values: &[f32; 64])
     requires { (b < block_count) × (plane_size ≤ length plane.old) }
     ensures { plane.new ≡ stored_of plane.old b values.now }
 {
-    for r in 0..8usize {
+    for r in 0..8 {
         let at = line_at(b, r);
-        let line = block_line(values, r);
-        copy_floats(&line, plane, at);
+        plane[at..at + 8].copy_from_slice(&values[r * 8..r * 8 + 8]);
     }
 }

@@ -3,29 +3,21 @@
 #![tactic(auto)]
 
 ghost use Rattle.std.specs.Prelude.{◌≡◌, ◌+◌, ◌*◌, ◌<◌, length, slice_set};
-ghost use Rattle.chacha20.specs.Rfc8439.{roll, quarter, quarter_round, inner_block, rounds, initial, sums, serialized, block_from, chacha_block};
+ghost use Rattle.chacha20.specs.Rfc8439.{quarter, quarter_round, inner_block, rounds, initial, sums, serialized, block_from, chacha_block};
 ghost use Rattle.seq.specs.Bytes.{word};
-
-// 2.1: `<<<`.
-fn roll_left(x: u32, n: u32) -> u32
-    requires { (0 < n) × (n < 32) }
-    ensures { result ≡ roll n x }
-{
-    (x << n) | (x >> (32 - n))
-}
 
 // 2.1: the quarter round.
 pub fn quarter(a: u32, b: u32, c: u32, d: u32) -> [u32; 4]
     ensures { result ≡ quarter a b c d }
 {
-    let a = std::num::wrapping_add_u32(a, b);
-    let d = roll_left(d ^ a, 16);
-    let c = std::num::wrapping_add_u32(c, d);
-    let b = roll_left(b ^ c, 12);
-    let a = std::num::wrapping_add_u32(a, b);
-    let d = roll_left(d ^ a, 8);
-    let c = std::num::wrapping_add_u32(c, d);
-    let b = roll_left(b ^ c, 7);
+    let a = a.wrapping_add(b);
+    let d = (d ^ a).rotate_left(16);
+    let c = c.wrapping_add(d);
+    let b = (b ^ c).rotate_left(12);
+    let a = a.wrapping_add(b);
+    let d = (d ^ a).rotate_left(8);
+    let c = c.wrapping_add(d);
+    let b = (b ^ c).rotate_left(7);
     [a, b, c, d]
 }
 
@@ -34,38 +26,35 @@ fn quarter_round(s: &mut [u32; 16], x: usize, y: usize, z: usize, w: usize)
     requires { (x < 16) × (y < 16) × (z < 16) × (w < 16) }
     ensures { s.new ≡ quarter_round x y z w s.old }
 {
-    let q = quarter(s[x], s[y], s[z], s[w]);
-    s[x] = q[0];
-    s[y] = q[1];
-    s[z] = q[2];
-    s[w] = q[3];
+    let [a, b, c, d] = quarter(s[x], s[y], s[z], s[w]);
+    s[x] = a;
+    s[y] = b;
+    s[z] = c;
+    s[w] = d;
 }
 
 // 2.3: four quarter rounds on the columns, four on the diagonals. The first and the third diagonal are
 // exchanged, since no two share a word, and the processor then waits less.
-fn inner_block(state: [u32; 16]) -> [u32; 16]
-    ensures { result ≡ inner_block state }
+fn inner_block(s: &mut [u32; 16])
+    ensures { s.new ≡ inner_block s.old }
 {
-    let mut s = state;
-    quarter_round(&mut s, 0, 4, 8, 12);
-    quarter_round(&mut s, 1, 5, 9, 13);
-    quarter_round(&mut s, 2, 6, 10, 14);
-    quarter_round(&mut s, 3, 7, 11, 15);
-    quarter_round(&mut s, 2, 7, 8, 13);
-    quarter_round(&mut s, 1, 6, 11, 12);
-    quarter_round(&mut s, 0, 5, 10, 15);
-    quarter_round(&mut s, 3, 4, 9, 14);
-    s
+    quarter_round(s, 0, 4, 8, 12);
+    quarter_round(s, 1, 5, 9, 13);
+    quarter_round(s, 2, 6, 10, 14);
+    quarter_round(s, 3, 7, 11, 15);
+    quarter_round(s, 2, 7, 8, 13);
+    quarter_round(s, 1, 6, 11, 12);
+    quarter_round(s, 0, 5, 10, 15);
+    quarter_round(s, 3, 4, 9, 14);
 }
 
 // 2.3: twenty rounds.
-fn ten_times(state: [u32; 16]) -> [u32; 16]
-    ensures { result ≡ rounds 10 state }
+fn ten_times(state: &[u32; 16]) -> [u32; 16]
+    ensures { result ≡ rounds 10 state.now }
 {
-    let mut s = state;
+    let mut s = *state;
     for _ in 0..10usize {
-        let next = inner_block(s);
-        s = next;
+        inner_block(&mut s);
     }
     s
 }
@@ -76,7 +65,7 @@ fn word_at(bytes: &[u8], k: usize) -> u32
     ensures { result ≡ word bytes.now k }
 {
     let i = 4 * k;
-    seq::little_endian(bytes[i], bytes[i + 1], bytes[i + 2], bytes[i + 3])
+    u32::from_le_bytes([bytes[i], bytes[i + 1], bytes[i + 2], bytes[i + 3]])
 }
 
 // 2.3: the initial state of block 0. Other blocks differ in word 12, so it is made once for all of them.
@@ -109,12 +98,8 @@ fn sum_bytes(s: &[u32; 16], t: &[u32; 16]) -> [u8; 64]
 {
     let mut out = [0u8; 64];
     for i in 0..16 {
-        let w = std::num::wrapping_add_u32(s[i], t[i]);
-        let at = 4 * i;
-        out[at] = (w % 256) as u8;
-        out[at + 1] = (w / 0x100 % 256) as u8;
-        out[at + 2] = (w / 0x1_0000 % 256) as u8;
-        out[at + 3] = (w / 0x100_0000 % 256) as u8;
+        let w = s[i].wrapping_add(t[i]);
+        out[4 * i..4 * i + 4].copy_from_slice(&w.to_le_bytes());
     }
     out
 }
@@ -125,7 +110,7 @@ pub fn block_from(first: &[u32; 16], counter: u32) -> [u8; 64]
 {
     let mut state = *first;
     state[12] = counter;
-    sum_bytes(&ten_times(state), &state)
+    sum_bytes(&ten_times(&state), &state)
 }
 
 // 2.3: the block function, 64 bytes of keystream.

@@ -1,7 +1,7 @@
 -- The register over bytes: the first bits of a message are looked up at once, for all the turns that they still have to go,
 -- and the rest of the message goes on with the rest of the register.
-use Rattle.std.specs.Prelude.{◌≡◌, refl, Bool, false, not, List, [], ◌∷◌, ◌++◌, ℕ, ◌+◌, ◌*◌, ◌-◌, ◌/◌, ◌%◌, ◌^◌, ◌≤◌, ◌<◌, length, take, drop, replicate}
-use Rattle.std.proofs.Common.{sym, ap, ap₂, ◌∙◌, append_assoc, mod-eq_of_lt, arith, lit<, length-append, take-append-drop, drop_of_length-le, drop-drop}
+use Rattle.std.specs.Prelude.{◌≡◌, refl, Bool, false, not, List, [], ◌∷◌, ◌++◌, ℕ, ◌+◌, ◌*◌, ◌/◌, ◌%◌, ◌^◌, ◌≤◌, ◌<◌, length, take, drop, replicate}
+use Rattle.std.proofs.Common.{sym, ap, ap₂, ◌∙◌, append_assoc, mod-eq_of_lt, arith, lit<, length-append, take-append-drop, drop_of_length-le}
 use mathlib.Core.List.{map, tail}
 use Rattle.std.proofs.lemmas.List.{length-map}
 use Rattle.std.specs.Int.Bits.{bit_xor}
@@ -76,13 +76,7 @@ pub after_none : (x i : ℕ) (s : List ℕ) → length s ≤ i → register_afte
 unfolding register_after transmitted register_of
 after_none x i s h = rw (drop_of_length-le s h)
 
--- the block up to e is fed as a message of its own
-pub after_block : (x i e : ℕ) (s : List ℕ) → i ≤ e → register_after (register_after x (take (e - i) (drop i s))) (drop e s) ≡ register_after x (drop i s)
+-- what comes first is fed as a message of its own
+pub after-append : (x : ℕ) (s t : List ℕ) → register_after x (s ++ t) ≡ register_after (register_after x s) t
 unfolding register_after
-after_block x i e s h =
-    let block = take (e - i) (drop i s) in
-    let rest = drop (e - i) (drop i s) in
-    let there : i + (e - i) ≡ e = omega arith in
-    ap (register_after (register_after x block)) (sym (drop-drop (e - i) i s ∙ ap (λ (k : ℕ). drop k s) there))
-    ∙ sym (register-append reflected (transmitted block) (transmitted rest) x)
-    ∙ ap (register_of reflected x) (sym (transmitted-append block rest) ∙ ap transmitted (take-append-drop (e - i) (drop i s)))
+after-append x s t = ap (register_of reflected x) (transmitted-append s t) ∙ register-append reflected (transmitted s) (transmitted t) x

@@ -1,6 +1,53 @@
-// Entry 16 k + i is what 4 (k + 1) turns of the register make of the four bits i: `table` of specs/Table.antt, which the
-// proof of `crc32` computes and compares.
-pub const TABLE: [u32; 256] = [
+// What turns of the register make of its low bits, looked up.
+ghost use Rattle.std.specs.Prelude.{◌≡◌, ◌+◌, ◌*◌, ◌%◌, ◌≤◌, ◌<◌, length};
+ghost use Rattle.crc32.specs.Shift.{reflected, register_turns, register_after, table};
+
+// Entry 16 k + i is what 4 (k + 1) turns of the register make of the four bits i: `table` of specs/Shift.antt.
+#[derive(Drop)]
+pub struct Table {
+    words: [u32; 256],
+    ghost of_turns: { words ≡ table },
+}
+
+impl Table {
+    // The entries are computed and compared in the proof.
+    pub fn new() -> Self {
+        Table { words: WORDS }
+    }
+
+    // What 4 (k + 1) turns of the register make of the low four bits of `y`.
+    fn look(&self, k: usize, y: u64) -> u64
+        requires { k < 16 }
+        ensures { result ≡ register_turns reflected (4 * (k + 1)) (y % 16) }
+    {
+        u64::from(self.words[k * 16 + (y % 16) as usize])
+    }
+
+    // What 8 (k + 1) turns of the register make of the low byte of `y`.
+    fn look_byte(&self, k: usize, y: u64) -> u64
+        requires { k < 8 }
+        ensures { result ≡ register_turns reflected (8 * (k + 1)) (y % 256) }
+    {
+        self.look(2 * k + 1, y) ^ self.look(2 * k, y / 16)
+    }
+
+    // The register `start` after at most eight bytes. Each byte is added to the register's low end and looked up there for its
+    // own turns and for those of the bytes behind it, so that no look waits for another.
+    pub fn feed(&self, start: u64, bytes: &[u8]) -> u64
+        requires { length bytes.now ≤ 8 }
+        ensures { result ≡ register_after start bytes.now }
+    {
+        let mut sum = 0;
+        let mut x = start;
+        for (i, b) in bytes.iter().enumerate() {
+            sum ^= self.look_byte(bytes.len() - 1 - i, u64::from(*b) ^ x);
+            x /= 256;
+        }
+        sum ^ x
+    }
+}
+
+const WORDS: [u32; 256] = [
     0x00000000, 0x1db71064, 0x3b6e20c8, 0x26d930ac, 0x76dc4190, 0x6b6b51f4, 0x4db26158, 0x5005713c,
     0xedb88320, 0xf00f9344, 0xd6d6a3e8, 0xcb61b38c, 0x9b64c2b0, 0x86d3d2d4, 0xa00ae278, 0xbdbdf21c,
     0x00000000, 0x77073096, 0xee0e612c, 0x990951ba, 0x076dc419, 0x706af48f, 0xe963a535, 0x9e6495a3,

@@ -6,28 +6,16 @@ mod matrix;
 
 ghost use Rattle.std.specs.Prelude.{◌≡◌, ◌<◌};
 ghost use Rattle.dct.specs.Grid.{grid, column};
-ghost use Rattle.dct.specs.Matrix.{matrix, dct_entry, dct_turned};
+ghost use Rattle.dct.specs.Matrix.{dct_entry, dct_turned};
 ghost use Rattle.dct.specs.Dct.{forward_of, inverse_of, dot_of};
 
 use matrix::MATRIX;
 
-fn entry_at(table: &[[f32; 8]; 8], k: usize, i: usize) -> f32
-    requires { (table.now ≡ matrix) × (k < 8) × (i < 8) }
-    ensures { result ≡ dct_entry k i }
-{
-    table[k][i]
-}
-
-// The matrix, line by line, for `forward` and `inverse`. Made once and lent: a constant is rebuilt at every use.
+// The matrix, line by line. Made once and lent: a constant is rebuilt at every use.
 pub fn dct_matrix() -> [f32; 64]
     ensures { result ≡ grid dct_entry }
 {
-    let table = MATRIX;
-    let mut m = [0.0f32; 64];
-    for p in 0..64usize {
-        m[p] = entry_at(&table, p / 8, p % 8);
-    }
-    m
+    MATRIX
 }
 
 // The same with its lines and columns exchanged.
@@ -35,11 +23,7 @@ pub fn dct_turned() -> [f32; 64]
     ensures { result ≡ grid dct_turned }
 {
     let matrix = dct_matrix();
-    let mut m = [0.0f32; 64];
-    for p in 0..64usize {
-        m[p] = matrix[p % 8 * 8 + p / 8];
-    }
-    m
+    std::array::from_fn(|p: usize| matrix[p % 8 * 8 + p / 8])
 }
 
 // Line r of a times column c of b, summed in index order from -0.0, as rustc starts a float sum.
@@ -75,19 +59,35 @@ fn product(a: &[f32; 64], b: &[f32; 64]) -> [f32; 64]
     p
 }
 
-// The transform of a block: rows, then columns. Line k, column l is afterwards the vertical frequency k and the
-// horizontal one l. The inner product has no name, so that it is not copied.
-pub fn forward(block: &mut [f32; 64], matrix: &[f32; 64], turned: &[f32; 64])
-    requires { (matrix.now ≡ grid dct_entry) × (turned.now ≡ grid dct_turned) }
-    ensures { block.new ≡ forward_of block.old }
-{
-    *block = product(matrix, &product(block, turned));
+// The transform of a block and its inverse, with the matrix of both made once for all blocks.
+#[derive(Drop)]
+pub struct Transform {
+    matrix: [f32; 64],
+    turned: [f32; 64],
+    ghost matrix_is: { matrix ≡ grid dct_entry },
+    ghost turned_is: { turned ≡ grid dct_turned },
 }
 
-// The way back: columns, then rows.
-pub fn inverse(block: &mut [f32; 64], matrix: &[f32; 64], turned: &[f32; 64])
-    requires { (matrix.now ≡ grid dct_entry) × (turned.now ≡ grid dct_turned) }
-    ensures { block.new ≡ inverse_of block.old }
-{
-    *block = product(&product(turned, block), matrix);
+impl Transform {
+    pub fn new() -> Self {
+        Transform {
+            matrix: dct_matrix(),
+            turned: dct_turned(),
+        }
+    }
+
+    // The transform of a block: rows, then columns. Line k, column l is afterwards the vertical frequency k and the
+    // horizontal one l. The inner product has no name, so that it is not copied.
+    pub fn forward(&self, block: &mut [f32; 64])
+        ensures { block.new ≡ forward_of block.old }
+    {
+        *block = product(&self.matrix, &product(block, &self.turned));
+    }
+
+    // The way back: columns, then rows.
+    pub fn inverse(&self, block: &mut [f32; 64])
+        ensures { block.new ≡ inverse_of block.old }
+    {
+        *block = product(&product(&self.turned, block), &self.matrix);
+    }
 }

@@ -28,12 +28,10 @@ pub fn dither(group: u32) -> [f32; 16]
 fn numbers(bytes: &[u8; 64]) -> [f32; 16]
     ensures { result ≡ tab (dithered bytes.now) 16 }
 {
-    let mut u = [0.0f32; 16];
-    for k in 0..16usize {
+    std::array::from_fn(|k: usize| {
         let i = 4 * k;
-        u[k] = number(seq::little_endian(bytes[i], bytes[i + 1], bytes[i + 2], bytes[i + 3]));
-    }
-    u
+        number(u32::from_le_bytes([bytes[i], bytes[i + 1], bytes[i + 2], bytes[i + 3]]))
+    })
 }
 
 // The 24 bits and 2^24 are floats as they stand, and so is the quotient: nothing is rounded.

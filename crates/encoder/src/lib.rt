@@ -31,15 +31,12 @@ fn encode_into(bytes: &[u8], coded: &mut [u8])
     requires { (length coded.old ≡ 16 * length bytes.now + 12) × (length bytes.now ≤ 4096) }
     ensures { coded.new ≡ encode_of bytes.now }
 {
-    let steps = 8 * bytes.len() + 6;
-    let mut state = 0u32;
-    let mut t = 0usize;
-    while t < steps {
-        let register = (bit_at(bytes, t) as u32) * 64 + state;
+    let mut state = 0;
+    for t in 0..8 * bytes.len() + 6 {
+        let register = u32::from(bit_at(bytes, t)) * 64 + state;
         coded[2 * t] = parity_of(GENERATOR_0, register);
         coded[2 * t + 1] = parity_of(GENERATOR_1, register);
         state = register / 2;
-        t += 1;
     }
 }
 
@@ -49,14 +46,15 @@ fn bit_at(bytes: &[u8], t: usize) -> u8
 {
     let i = t / 8;
     if i < bytes.len() {
-        return (bytes[i] >> (7 - t % 8)) % 2;
+        (bytes[i] >> (7 - t % 8)) % 2
+    } else {
+        0
     }
-    0
 }
 
 // The parity of a register's bits under a generator.
 fn parity_of(g: u32, r: u32) -> u8
     ensures { result ≡ parity g r }
 {
-    (u32::count_ones(r & g) % 2) as u8
+    ((r & g).count_ones() % 2) as u8
 }

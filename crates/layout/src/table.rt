@@ -1,8 +1,35 @@
 // The layout: the shuffle of 1,024 with the key "iwm v3 public layout key" and eight zeros, as the Rust makes it
 // (oracle/compare holds both uses of it to the Rust).
-use crate::BLOCKS;
+ghost use Rattle.std.specs.Prelude.{◌≡◌, ◌<◌};
+ghost use Rattle.layout.specs.Layout.{layout, block_of};
+ghost use Rattle.picture.specs.Sizes.{block_count};
 
-pub const LAYOUT: [u16; BLOCKS] = [
+use picture::BLOCKS;
+
+// The blocks of the places, in the order of the places.
+#[derive(Drop)]
+pub struct Layout {
+    blocks: [u16; BLOCKS],
+    ghost of_places: { blocks ≡ layout },
+}
+
+impl Layout {
+    pub fn new() -> Self {
+        Layout {
+            blocks: BLOCK_OF_PLACE,
+        }
+    }
+
+    // The block in which place j stands.
+    pub fn block(&self, j: usize) -> usize
+        requires { j < block_count }
+        ensures { (result ≡ block_of j) × (result < block_count) }
+    {
+        usize::from(self.blocks[j])
+    }
+}
+
+const BLOCK_OF_PLACE: [u16; BLOCKS] = [
     428, 273, 782, 269, 733, 801, 800, 293, 367, 172, 531, 904, 976, 259, 406, 609, 747, 503, 799,
     247, 337, 58, 338, 506, 731, 757, 994, 422, 1023, 501, 21, 935, 397, 451, 884, 36, 314, 386,
     796, 186, 319, 454, 430, 46, 887, 383, 118, 88, 959, 413, 606, 394, 434, 270, 47, 556, 857,

@@ -1,22 +1,21 @@
--- The plane block by block: it is made of its blocks, and what it holds after the first of them became their changes. The votes
--- of the first blocks, and the dither numbers of a block among those of four.
-use Rattle.std.specs.Prelude.{◌≡◌, ◌⊎◌, length, get_or, set, Float}
+-- The plane block by block: it is made of its blocks, and what it holds after the first of them became their changes. The
+-- dither numbers of a block among those of four.
+use Rattle.std.specs.Prelude.{◌≡◌, ◌⊎◌, length, get_or, Float}
 use Rattle.std.proofs.Math.Path.{refl, ap}
-use Rattle.std.proofs.Common.{sym, ◌∙◌, inl, inr, le_refl, eq-or-lt_of_le, add-zero, add-suc, arith, length-set, ext_get_or}
+use Rattle.std.proofs.Common.{sym, ◌∙◌, inl, inr, le_refl, eq-or-lt_of_le, arith, ext_get_or}
 use mathlib.Core.List.{List}
 use Prim.Native.Nat.{ℕ, zero, suc, ◌+◌, ◌*◌, ◌/◌, ◌%◌, ◌≤◌, ◌<◌}
-use Rattle.std.proofs.Math.Nat.{zero-add}
 use Rattle.std.proofs.Math.Numerals.{add-one}
 use Rattle.std.proofs.Math.Arith.{digits_div, digits_mod}
 use Rattle.std.specs.Float.{nan}
-use Rattle.seq.specs.Tab.{tab-same, length-tab, get_or-tab, prefix-more}
+use Rattle.seq.specs.Tab.{tab-same, length-tab, get_or-tab}
 use Rattle.seq.specs.Lists.{tab}
 use Rattle.dither.specs.Dither.{dither_of}
 use Rattle.dct.specs.Grid.{cell}
 use Rattle.dct.specs.Columns.{cell-grid, length-grid}
 use Rattle.block.specs.Plane.{line_at, load_of, stored_of}
 use Rattle.block.specs.Stored.{length-stored, load_stored, load-other}
-use Rattle.plane.specs.Plane.{dither_four, block_change, plane_of_blocks, change_of, changed_block, changed_from, plane_vote, FirstVotes, dither_group}
+use Rattle.plane.specs.Plane.{dither_four, block_change, plane_of_blocks, change_of, changed_block, changed_first, dither_group}
 use Rattle.picture.specs.Sizes.{block_count, plane_size}
 
 -- ---- the plane is made of its blocks
@@ -63,20 +62,13 @@ unfolding block_change
 length-changed bits d b = length-grid _
 
 module _ (bits : List ℕ) (d : List Float) where
-  pub changed-none : (a : ℕ) → d ≡ changed_from bits a 0 d
-  unfolding changed_from
-  changed-none a = refl
+  pub changed-none : d ≡ changed_first bits 0 d
+  unfolding changed_first
+  changed-none = refl
 
-  pub changed-more : (a n : ℕ) → stored_of (changed_from bits a n d) (a + n) (changed_block bits (changed_from bits a n d) (a + n)) ≡ changed_from bits a (n + 1) d
-  unfolding changed_from
-  changed-more a n = rw add-one refl
-
-  -- n blocks after the first a
-  pub changed-on : (a n : ℕ) → changed_from bits a n (changed_from bits 0 a d) ≡ changed_from bits 0 (a + n) d
-  unfolding changed_from
-  changed-on a zero = rw (add-zero a) refl
-  changed-on a (suc n) =
-      ap (λ (e : List Float). stored_of e (a + n) (changed_block bits e (a + n))) (changed-on a n) ∙ rw (add-suc a n, zero-add (a + n)) refl
+  pub changed-more : (n : ℕ) → stored_of (changed_first bits n d) n (changed_block bits (changed_first bits n d) n) ≡ changed_first bits (n + 1) d
+  unfolding changed_first
+  changed-more n = rw add-one refl
 
   -- the first n blocks of e are the changes of those of d, and the others as in d
   abbrev Changed : ℕ → List Float → Type 0
@@ -102,22 +94,16 @@ module _ (bits : List ℕ) (d : List Float) where
           rw i (load_stored e x n N long (length-changed bits e n) ∙ ap (block_change (dither_four n) (get_or bits n 0)) (p.2 n (le_refl n)))
       go b (inr q) = load-other e x n N long b (λ i. omega arith) ∙ p.1 b (omega arith)
 
-  changed-first : (n : ℕ) → n ≤ block_count → length d ≡ plane_size → Changed n (changed_from bits 0 n d)
-  unfolding changed_from
-  changed-first zero h l = (l, λ b k. absurd (omega arith), λ b k. refl)
-  changed-first (suc n) h l = rw (zero-add n) (one_more n (changed_from bits 0 n d) h (changed-first n (omega arith) l))
+  first-changed : (n : ℕ) → n ≤ block_count → length d ≡ plane_size → Changed n (changed_first bits n d)
+  unfolding changed_first
+  first-changed zero h l = (l, λ b k. absurd (omega arith), λ b k. refl)
+  first-changed (suc n) h l = one_more n (changed_first bits n d) h (first-changed n (omega arith) l)
 
-  pub all_changed : length d ≡ plane_size → changed_from bits 0 block_count d ≡ change_of bits d
+  pub all_changed : length d ≡ plane_size → changed_first bits block_count d ≡ change_of bits d
   unfolding change_of
   all_changed l =
-      let p = changed-first block_count (le_refl block_count) l in
-      plane-is (changed_block bits d) (changed_from bits 0 block_count d) p.0 (λ b h. p.1 b h)
-
--- ---- the votes
-
-pub votes-more : (d : List Float) (n : ℕ) (v : Float) (votes : List Float) → n < block_count → v ≡ plane_vote d n → FirstVotes d n votes
-    → FirstVotes d (n + 1) (set votes n v)
-votes-more d n v votes h e p = (simp length-set p.0, prefix-more (plane_vote d) n v votes (omega (arith, p.0)) e p.1)
+      let p = first-changed block_count (le_refl block_count) l in
+      plane-is (changed_block bits d) (changed_first bits block_count d) p.0 (λ b h. p.1 b h)
 
 -- ---- the dither
 

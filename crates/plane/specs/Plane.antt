@@ -1,6 +1,6 @@
 -- The mark on the plane: each of its 1,024 blocks carries a bit, and gives a vote on it. Sections 13 and 14 of the scope:
 -- block b and coefficient k use the dither's number 4 b + k; the change is the marked plane minus the plane. Definitions only.
-use Rattle.std.specs.Prelude.{List, ℕ, ◌+◌, ◌*◌, ◌/◌, ◌%◌, zero, suc, get_or, length, take, Float, ◌≡◌}
+use Rattle.std.specs.Prelude.{List, ℕ, ◌+◌, ◌*◌, ◌/◌, ◌%◌, zero, suc, get_or, Float}
 use Rattle.std.specs.Float.{binary32}
 use Rattle.std.specs.Float.Ieee.{sub}
 use Rattle.seq.specs.Lists.{tab}
@@ -42,24 +42,20 @@ block_vote u x = vote_of u (forward_of x)
 unfoldable pub votes_of : List Float → List Float
 votes_of d = tab (λ b. block_vote (dither_four b) (load_of d b)) block_count
 
--- ---- the plane on the way: some blocks changed, some votes found
+-- ---- the plane on the way, and a vote
 
 -- what block b of the plane becomes
 abbrev pub changed_block : List ℕ → List Float → ℕ → List Float
 changed_block bits d b = block_change (dither_four b) (get_or bits b 0) (load_of d b)
 
--- the plane d whose n blocks from block a on became their changes
-unfoldable pub changed_from : List ℕ → ℕ → ℕ → List Float → List Float
-changed_from bits a zero d = d
-changed_from bits a (suc n) d = stored_of (changed_from bits a n d) (a + n) (changed_block bits (changed_from bits a n d) (a + n))
+-- the plane d whose first n blocks became their changes, one after the other
+unfoldable pub changed_first : List ℕ → ℕ → List Float → List Float
+changed_first bits zero d = d
+changed_first bits (suc n) d = stored_of (changed_first bits n d) n (changed_block bits (changed_first bits n d) n)
 
 -- the vote of block b of the plane
 abbrev pub plane_vote : List Float → ℕ → Float
 plane_vote d b = block_vote (dither_four b) (load_of d b)
-
--- the first n are the votes of the plane's first n blocks
-abbrev pub FirstVotes : List Float → ℕ → List Float → Type 0
-FirstVotes d n votes = (length votes ≡ block_count) × (take n votes ≡ tab (plane_vote d) n)
 
 -- the numbers of block g of the keystream
 abbrev pub dither_group : ℕ → List Float

@@ -7,3 +7,4 @@ pub mod Table
 pub mod Rows
 pub mod Lines
 pub mod Fills
+pub mod Made

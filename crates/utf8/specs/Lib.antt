@@ -8,3 +8,4 @@ pub mod Scalars
 pub mod Texts
 pub mod Examples
 pub mod Reading
+pub mod Reaches

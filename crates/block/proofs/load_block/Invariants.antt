@@ -1,9 +1,6 @@
--- After r turns the first r lines stand in the block; the measure is what is left of eight.
-use mathlib.Core.Path.{◌≡◌}
-use mathlib.Core.List.{List}
-use Prim.Native.Nat.{ℕ, ◌+◌, ◌-◌, ◌*◌, ◌≤◌}
-use lib.ListN.{length, take, get_or}
-use lib.Ieee.{Float, nan}
+-- After r turns the first r lines stand in the block.
+use Rattle.std.proofs.Common.{◌≡◌, ℕ, ◌+◌, ◌*◌, ◌≤◌, List, length, take, get_or}
+use Rattle.std.specs.Float.Ieee.{Float, nan}
 use Rattle.seq.specs.Lists.{lines}
 use Rattle.dct.specs.Grid.{block_line}
 use Rattle.block.specs.Plane.{line_at}
@@ -15,6 +12,3 @@ Begun g r p = (length p ≡ 64) × (take (r * 8) p ≡ lines (block_line g) r)
 
 abbrev pub invariant-loop-r : goal.invariant-loop-r
 invariant-loop-r l = (l.r ≤ 8) × Begun (λ i k. get_or l.plane (line_at l.b i + k) nan) l.r l.values
-
-abbrev pub decreases-loop-r : goal.decreases-loop-r
-decreases-loop-r l = 8 - l.r

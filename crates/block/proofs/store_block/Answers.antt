@@ -1,21 +1,36 @@
--- After r turns the first r lines stand in their places; the measure is what is left of eight.
-use borrow.Author.Rules.{rules}
-use mathlib.Core.Path.{◌≡◌, refl, ◌∙◌}
-use native.Mathlib.Omega.{arith}
+-- After r turns the first r lines stand in their places.
+use Rattle.std.proofs.Common.{◌≡◌, refl, sym, ◌∙◌, ap, ℕ, ◌+◌, ◌-◌, ◌*◌, ◌≤◌, List, length, take, drop, arith, rules}
+use Rattle.std.proofs.Math.Nat.{add-sub_cancel_left}
+use Rattle.std.proofs.Math.Seq.{length-paste}
+use Rattle.std.proofs.lemmas.Slice.{put_mid-paste}
+use Rattle.std.specs.Float.Ieee.{Float, nan}
 use Rattle.seq.specs.Tab.{length-tab}
-use Rattle.seq.specs.Lines.{pasted-none, pasted-more}
+use Rattle.seq.specs.Lines.{pasted-none, pasted-more, part-tab}
+use Rattle.dct.specs.Grid.{cell, block_line}
 use Rattle.block.specs.Plane.{stored_of}
+use Rattle.block.specs.Stored.{line-fits}
 use Rattle.block.proofs.store_block.Goals as goal
+
+-- what is copied in a turn
+line : (x : List Float) (r : ℕ) → r * 8 + 8 ≤ length x → take (r * 8 + 8 - r * 8) (drop (r * 8) x) ≡ block_line (cell x) r
+line x r room = rw (add-sub_cancel_left (r * 8) 8) (part-tab x (r * 8) 8 nan room)
 
 pub loop-r-init : goal.loop-r-init
 loop-r-init c = (search rules, refl, pasted-none _ _ _ _)
 
 pub loop-r-preserved : goal.loop-r-preserved
-loop-r-preserved c = (
-  search rules,
-  search rules,
-  c.copy_floats.ensures ∙ rw (c.block_line-line.ensures, length-tab, c.line_at-at.ensures, c.loop-r.invariant.2) (pasted-more _ _ _ _ _),
-)
+loop-r-preserved c =
+    let l = c.loop-r in
+    let at = c.line_at-at.result in
+    let x = c.args.values.now in
+    let eight : length (block_line (cell x) l.r) ≡ 8 = length-tab _ 8 in
+    let room : at + 8 ≤ length l.plane = rw c.line_at-at.ensures (omega (arith, line-fits c.args.b l.r c.requires.0 c.loop-r-test.true)) in
+    let e = put_mid-paste at _ l.plane _ (block_line (cell x) l.r) 8 (c.copy_from_slice.ensures.after ∙ line x l.r (omega arith))
+    (sym (add-sub_cancel_left at 8)) (sym eight) in (
+      search rules,
+      ap length e ∙ (length-paste l.plane at (block_line (cell x) l.r) 8 room (omega (arith, eight)) ∙ l.invariant.1),
+      e ∙ rw (c.line_at-at.ensures, l.invariant.2) (pasted-more _ _ _ _ _),
+    )
 
 pub returns : goal.returns
 unfolding stored_of

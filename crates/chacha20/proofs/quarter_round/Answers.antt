@@ -5,4 +5,4 @@ use Rattle.chacha20.proofs.quarter_round.Goals as goal
 
 pub returns : goal.returns
 unfolding quarter_round
-returns c = rw c.quarter-q.ensures refl
+returns c = rw c.quarter.ensures refl

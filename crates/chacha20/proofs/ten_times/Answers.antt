@@ -9,4 +9,4 @@ loop-init c = search rules
 
 pub loop-preserved : goal.loop-preserved
 unfolding rounds
-loop-preserved c = (search rules, rw add-one (cc))
+loop-preserved c = rw add-one (cc)

@@ -1,18 +1,9 @@
--- The table is computed and compared entry by entry. The rest is the law of the CRC by the register.
-use mathlib.Core.Path.{refl, sym, ap, ◌∙◌}
-use Prim.Native.Nat.{ℕ, ◌<◌, ◌^◌}
-use lib.Bits.{bit_xor}
-use Rattle.seq.specs.Lists.{tab}
-use Rattle.crc32.specs.Shift.{register_turn, register_turns, table, table_entry}
-use Rattle.std.proofs.Common.{lit<}
-use Rattle.std.specs.Int.Bits.{xor_lt}
+-- The register's 32 bits stay 32, and the rest is the law of the CRC by the register.
+use Rattle.std.proofs.Common.{ℕ, ◌<◌, ◌^◌, sym, ap, ◌∙◌, lit<}
+use Rattle.std.specs.Int.Bits.{bit_xor, xor_lt}
 use Rattle.crc32.specs.Bytes.{after-lt}
 use Rattle.crc32.proofs.Definition.{crc-after}
 use Rattle.crc32.proofs.crc32.Goals as goal
-
-pub update-requires : goal.update-requires
-unfolding table tab table_entry register_turns register_turn
-update-requires c = refl
 
 pub overflow_cast-result : goal.overflow_cast-result
 overflow_cast-result c =

@@ -1,12 +1,11 @@
--- The register after the bytes that are left is the one after all of them, from all ones. The measure is the number of those left.
-use mathlib.Core.Path.{◌≡◌}
-use Prim.Native.Nat.{◌-◌, ◌≤◌}
-use lib.ListN.{length, drop}
+-- After n blocks of eight the register is that of the first 8 n bytes: the one after the bytes left is the one after all of them.
+use Rattle.std.proofs.Common.{◌≡◌, ◌*◌, ◌≤◌, length, drop}
+use Rattle.std.specs.Slice.Iter.{chunks_exact_rest, chunks_exact_size}
 use Rattle.crc32.specs.Shift.{register_after}
 use Rattle.crc32.proofs.update.Given as goal
 
-abbrev pub invariant-loop-i : goal.invariant-loop-i
-invariant-loop-i l = (l.i ≤ length l.bytes) × (register_after l.x (drop l.i l.bytes) ≡ register_after 0xffff_ffff l.bytes)
-
-abbrev pub decreases-loop-i : goal.decreases-loop-i
-decreases-loop-i l = length l.bytes - l.i
+abbrev pub invariant-loop-block : goal.invariant-loop-block
+invariant-loop-block l =
+    let at = 8 * length l.yielded in
+    (chunks_exact_size l.block-iterator ≡ 8) × (at ≤ length l.bytes) × (chunks_exact_rest l.block-iterator ≡ drop at l.bytes)
+    × (register_after l.x (drop at l.bytes) ≡ register_after 0xffff_ffff l.bytes)

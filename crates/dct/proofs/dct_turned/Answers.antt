@@ -1,21 +1,18 @@
--- After p turns the first p values stand in their places; the measure is what is left of 64.
-use borrow.Author.Rules.{rules}
-use mathlib.Core.Path.{refl, ◌∙◌}
-use Prim.Native.Nat.{◌/◌, ◌%◌}
-use native.Mathlib.Omega.{arith}
-use Rattle.seq.specs.Fills.{fills-none, fills-more, fills-all}
+-- Place p of the turned matrix is line p % 8, column p / 8 of the matrix.
+use Rattle.std.proofs.Common.{ℕ, ◌/◌, ◌%◌, List, ap, ◌∙◌, arith, rules}
+use Rattle.std.specs.Float.Ieee.{Float}
+use Rattle.seq.specs.Made.{made}
+use Rattle.seq.specs.Tab.{tab-same}
 use Rattle.dct.specs.Columns.{cell-grid, table-grid}
+use Rattle.dct.specs.Grid.{cell}
 use Rattle.dct.specs.Matrix.{dct_entry, dct_turned}
 use Rattle.dct.proofs.dct_turned.Goals as goal
 
-pub loop-p-init : goal.loop-p-init
-loop-p-init c = (c.dct_matrix-matrix.ensures, fills-none _ _ _ refl)
-
-pub loop-p-preserved : goal.loop-p-preserved
-loop-p-preserved c =
-    let loop = c.loop-p in
-    let entry = cell-grid dct_entry (loop.p % 8) (loop.p / 8) (omega arith) (omega arith) in
-    (search rules, fills-more loop.invariant.1 (omega arith) (rw loop.invariant.0 entry))
-
 pub returns : goal.returns
-returns c = fills-all c.loop-p.invariant.1 (omega arith) ∙ table-grid dct_turned
+returns c =
+    let m = c.dct_matrix-matrix.result in
+    let at = λ (p : ℕ). cell m (p % 8) (p / 8) in
+    made _ at _ (λ i y d k. search rules) _ 64 c.from_fn.ensures.items
+    ∙ tab-same at (λ p. dct_turned (p / 8) (p % 8)) 64
+    (λ p P. ap (λ (x : List Float). cell x (p % 8) (p / 8)) c.dct_matrix-matrix.ensures ∙ cell-grid dct_entry (p % 8) (p / 8) (omega arith) (omega arith))
+    ∙ table-grid dct_turned

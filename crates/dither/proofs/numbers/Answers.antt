@@ -1,16 +1,10 @@
--- The first k numbers stand, k rising.
-use mathlib.Core.Path.{refl}
-use native.Mathlib.Omega.{arith}
-use Rattle.seq.specs.Fills.{fills-none, fills-more}
-use Rattle.dither.specs.Dither.{dithered}
+-- Number k is that of word k.
+use Rattle.std.proofs.Common.{rules}
+use Rattle.seq.specs.Made.{made}
 use Rattle.seq.specs.Bytes.{word}
+use Rattle.dither.specs.Dither.{dithered}
 use Rattle.dither.proofs.numbers.Goals as goal
 
-pub loop-k-init : goal.loop-k-init
-loop-k-init c = fills-none _ _ _ refl
-
-pub loop-k-preserved : goal.loop-k-preserved
+pub returns : goal.returns
 unfolding dithered word
-loop-k-preserved c =
-    let l = c.loop-k in
-    fills-more l.invariant (omega arith) (rw (c.number.ensures, c.little_endian.ensures) refl)
+returns c = made _ (dithered c.args.bytes.now) _ (λ i y d k. search rules) _ 16 c.from_fn.ensures.items

@@ -1,5 +1,4 @@
--- After t turns the state is that after t bits, and the first 2 t outputs are those of t bits; the measure is what is
--- left.
+-- After t turns the state is that after t bits, and the first 2 t outputs are those of t bits.
 use mathlib.Core.Path.{◌≡◌, refl, sym, ap, ◌∙◌}
 use Prim.Native.Nat.{ℕ, ◌+◌, ◌*◌, ◌<◌}
 use native.Mathlib.Omega.{arith}
@@ -12,7 +11,7 @@ use Rattle.encoder.proofs.encode_into.Goals as goal
 
 pub loop-t-init : goal.loop-t-init
 unfolding run code
-loop-t-init c = (omega arith, refl, omega arith, refl, refl)
+loop-t-init c = (refl, omega arith, refl, refl)
 
 pub loop-t-preserved : goal.loop-t-preserved
 loop-t-preserved c =
@@ -20,12 +19,12 @@ loop-t-preserved c =
     let a = c.args in
     let bs = record_bits a.bytes.now six_zeros in
     let n : length bs ≡ 8 * length a.bytes.now + 6 = record_bits-length a.bytes.now six_zeros in
-    let x = c.bit_at.result in
-    let X : x ≡ get_or bs l.t 0 = c.bit_at.ensures in
+    let x = c.from.result in
+    let X : x ≡ get_or bs l.t 0 = c.from.ensures ∙ c.bit_at.ensures in
     let B : x < 2 = rw X (bits_at bs l.t (record_bits-bits a.bytes.now six_zeros six-bits)) in
     let w = word-step bs l.coded l.t l.state (x * 64 + l.state) c.parity_of.result c.parity_of-in-loop-t.result (omega arith) (omega arith)
-    l.invariant.3 (ap (λ (y : ℕ). y * 64 + l.state) X) c.parity_of.ensures c.parity_of-in-loop-t.ensures l.invariant.4 in
-    (omega arith, simp length-set l.invariant.1, omega arith, w.0, w.1)
+    l.invariant.2 (ap (λ (y : ℕ). y * 64 + l.state) X) c.parity_of.ensures c.parity_of-in-loop-t.ensures l.invariant.3 in
+    (simp length-set l.invariant.0, omega arith, w.0, w.1)
 
 pub returns : goal.returns
 unfolding encode_of
@@ -34,4 +33,4 @@ returns c =
     let a = c.args in
     let bs = record_bits a.bytes.now six_zeros in
     let n : length bs ≡ 8 * length a.bytes.now + 6 = record_bits-length a.bytes.now six_zeros in
-    sym (take_all (2 * l.t) l.coded (omega arith)) ∙ l.invariant.4 ∙ ap (code 0) (take_all l.t bs (omega arith))
+    sym (take_all (2 * l.t) l.coded (omega arith)) ∙ l.invariant.3 ∙ ap (code 0) (take_all l.t bs (omega arith))

@@ -1,20 +1,19 @@
--- After a turn for each group the votes of their blocks stand.
-use borrow.Author.Rules.{rules}
-use mathlib.Core.Path.{◌≡◌, refl}
-use native.Mathlib.Omega.{arith}
-use Rattle.seq.specs.Tab.{prefix-all}
-use Rattle.seq.specs.Lists.{tab}
-use Rattle.plane.specs.Plane.{votes_of}
+-- After b turns the votes of the first b blocks stand.
+use Rattle.std.proofs.Common.{refl, ap, ◌∙◌, List, arith}
+use Rattle.std.specs.Float.Ieee.{Float}
+use Rattle.seq.specs.Fills.{fills-none, fills-more, fills-all}
+use Rattle.block.specs.Plane.{load_of}
+use Rattle.plane.specs.Plane.{block_vote, votes_of}
 use Rattle.plane.proofs.block_soft.Goals as goal
 
-pub loop-group-init : goal.loop-group-init
-unfolding tab
-loop-group-init c = (search rules, c.dct_matrix-matrix.ensures, c.dct_turned-turned.ensures, (refl, refl))
+pub loop-b-init : goal.loop-b-init
+loop-b-init c = fills-none _ _ _ refl
+
+pub loop-b-preserved : goal.loop-b-preserved
+loop-b-preserved c =
+    let l = c.loop-b in
+    fills-more l.invariant (omega arith) (c.vote.ensures ∙ ap (λ (u : List Float). block_vote u (load_of c.args.plane.now l.b)) c.of.ensures)
 
 pub returns : goal.returns
 unfolding votes_of
-returns c =
-    let l = c.loop-group in
-    let e : l.group ≡ 256 = omega arith in
-    let p = l.invariant.3 in
-    prefix-all _ _ _ p.0 (rw e at p.1)
+returns c = fills-all c.loop-b.invariant (omega arith)

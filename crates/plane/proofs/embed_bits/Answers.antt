@@ -1,31 +1,29 @@
--- After a turn for each group their blocks are changed (`changed_from`).
-use borrow.Author.Rules.{rules}
-use mathlib.Core.Path.{◌≡◌, refl, ◌∙◌, ap}
-use Prim.Native.Nat.{◌*◌}
-use native.Mathlib.Nat.{mul-add, mul-one}
-use native.Mathlib.Omega.{arith}
-use Rattle.plane.specs.Plane.{changed_from}
-use Rattle.plane.specs.Blocks.{changed-none, changed-on, all_changed}
+-- After b turns the first b blocks are changed, one after the other.
+use Rattle.std.proofs.Common.{◌≡◌, refl, ◌∙◌, ap, ap₂, List, get_or, arith, rules}
+use Rattle.std.specs.Float.Ieee.{Float}
+use Rattle.block.specs.Plane.{stored_of}
+use Rattle.plane.specs.Plane.{block_change, changed_block}
+use Rattle.plane.specs.Blocks.{changed-none, changed-more, all_changed}
 use Rattle.plane.proofs.embed_bits.Goals as goal
 
-pub loop-group-init : goal.loop-group-init
-loop-group-init c = (search rules, c.dct_matrix-matrix.ensures, c.dct_turned-turned.ensures, refl, changed-none _ _ _)
+pub loop-b-init : goal.loop-b-init
+loop-b-init c = (refl, changed-none _ _)
 
-pub loop-group-preserved : goal.loop-group-preserved
-loop-group-preserved c =
-    let l = c.loop-group in
-    let args = c.args in
-    let bits = args.bits.now in (
-      omega arith,
-      l.invariant.1,
-      l.invariant.2,
+pub loop-b-preserved : goal.loop-b-preserved
+loop-b-preserved c =
+    let l = c.loop-b in
+    let bits = c.args.bits.now in
+    let x : c.block_change-change.result ≡ changed_block bits l.plane l.b =
+    c.block_change-change.ensures ∙ ap₂ (λ (v x : List Float). block_change v (get_or bits l.b 0) x) c.of.ensures c.load_block-values.ensures in (
       search rules,
-      c.embed_four.ensures
-          ∙ (ap (changed_from bits (4 * l.group) 4) l.invariant.4 ∙ rw (mul-add, mul-one) (changed-on bits args.plane.now (4 * l.group) 4)),
+      c.store_block.ensures
+          ∙ (ap (stored_of l.plane l.b) x
+          ∙ (ap (λ (e : List Float). stored_of e l.b (changed_block bits e l.b)) l.invariant.1
+          ∙ changed-more bits c.args.plane.now l.b)),
     )
 
 pub returns : goal.returns
 returns c =
-    let l = c.loop-group in
-    let e : l.group ≡ 256 = omega arith in
-    (rw e at l.invariant.4) ∙ all_changed c.args.bits.now c.args.plane.now c.requires
+    let l = c.loop-b in
+    let e : l.b ≡ 1024 = omega arith in
+    (rw e at l.invariant.1) ∙ all_changed c.args.bits.now c.args.plane.now c.requires
