@@ -15,7 +15,8 @@ use Rattle.float.specs.Base.{zero+, zero-}
 use Rattle.float_laws.specs.Values.{Within, Holds}
 use Rattle.float_laws.specs.Bounds.{holds-scaled, within_more, round-within, add-within, mul-within}
 use Rattle.float_laws.specs.Shifted.{Room, room-power}
-use Rattle.resample_window.specs.Window.{Tap, taps}
+use Rattle.resample_window.specs.declared.Tap.{Tap}
+use Rattle.resample_window.specs.Window.{taps}
 use Rattle.picture.specs.Sizes.{longest_side, row_of, plane_size}
 use Rattle.resample_window_laws.specs.Reach.{reach, taps-few, taps-from, taps-room-down}
 use Rattle.resample_window_laws.specs.Weights.{weights-within}

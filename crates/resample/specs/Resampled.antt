@@ -3,7 +3,8 @@ use Rattle.std.specs.Prelude.{List, [], ◌∷◌, ℕ, Float, get_or}
 use Rattle.std.specs.Float.{binary32, nan}
 use Rattle.std.specs.Float.Ieee.{add, mul}
 use Rattle.float.specs.Base.{zero+, zero-}
-use Rattle.resample_window.specs.Window.{Tap, taps}
+use Rattle.resample_window.specs.declared.Tap.{Tap}
+use Rattle.resample_window.specs.Window.{taps}
 use Rattle.seq.specs.Lists.{tab}
 
 -- z, and then weight times value for each tap

@@ -3,7 +3,13 @@ use Rattle.std.specs.Prelude.{◌≡◌, List, ℕ, suc, ◌+◌, ◌*◌, ◌�
 use Rattle.std.specs.Float.{nan, binary32}
 use Rattle.std.specs.Float.Ieee.{add, mul}
 use Rattle.seq.specs.Lists.{tab}
-use Rattle.resample_window.specs.Window.{Tap, start, tap_sources, tap_weights, all_taps}
+use Rattle.resample_window.specs.declared.Tap.{Tap}
+use Rattle.resample_window.specs.Window.{start, tap_sources, tap_weights, all_taps}
+
+-- how many values an axis has, and how many output samples
+pub record Axis : Type 0 where
+  pub src : ℕ
+  pub dst : ℕ
 
 -- the first places hold the taps of all dst output samples, from src samples
 pub record Tables (src dst : ℕ) (offsets index : List ℕ) (weight : List Float) : Type 0 where

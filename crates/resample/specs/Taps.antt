@@ -1,6 +1,6 @@
 -- The tables that `resample_window::taps` makes have the taps of an axis, in the room that is lent for them; sums over these taps, tap by tap.
-use Rattle.std.specs.Prelude.{◌≡◌, refl, List, [], ◌∷◌, ◌++◌, ℕ, zero, suc, ◌+◌, ◌-◌, ◌*◌, ◌≤◌, ◌<◌, length, get_or, take, drop, Float}
-use Rattle.std.proofs.Common.{sym, ◌∙◌, ap, inl, inr, add-one, eq-or-lt_of_le, le_trans, suc-mul, arith, length-append, length-drop, take_at, take-suc, take_all, get_or-take, get_or-append-add}
+use Rattle.std.specs.Prelude.{◌≡◌, refl, List, [], ◌∷◌, ◌++◌, map, ℕ, zero, suc, ◌+◌, ◌-◌, ◌*◌, ◌≤◌, ◌<◌, length, get_or, take, drop, Float}
+use Rattle.std.proofs.Common.{sym, ◌∙◌, ap, inl, inr, add-one, eq-or-lt_of_le, le_trans, suc-mul, arith, length-append, length-drop, take_at, take-suc, take_all, ext_get_or, get_or-drop, length-take-le, get_or-take, get_or-append-add}
 use Rattle.std.proofs.lemmas.List.{length-map}
 use Rattle.std.proofs.Math.ListN.{get_or-append, get_or-map}
 use Rattle.std.specs.Float.{nan, binary32}
@@ -8,7 +8,8 @@ use Rattle.std.specs.Float.Ieee.{add, mul}
 use Rattle.float.specs.Base.{zero-}
 use Rattle.seq.specs.Tab.{length-tab, get_or-tab}
 use Rattle.seq.specs.Lists.{filled, tab, lines}
-use Rattle.resample_window.specs.Window.{Tap, taps, start, tap_sources, tap_weights, all_taps, onto}
+use Rattle.resample_window.specs.declared.Tap.{Tap}
+use Rattle.resample_window.specs.Window.{taps, start, tap_sources, tap_weights, all_taps, onto}
 use Rattle.picture.specs.Sizes.{longest_side}
 use Rattle.resample_window.specs.Taps.{length-onto, start_none, start-more, start-rises}
 use Rattle.resample_window_laws.specs.Reach.{reach, taps-from, taps-few, taps-room-down, taps-room-up}
@@ -50,15 +51,6 @@ room-down src h = le_trans (start-most src 256 256) (taps-room-down src h)
 
 pub room-up : (dst : ℕ) → 256 ≤ dst → dst ≤ longest_side → start 256 dst dst ≤ 16384
 room-up dst h k = le_trans (start-most 256 dst dst) (taps-room-up dst h k)
-
--- ---- the sum over the taps of sample x that stand before place n, from -0
-
-abbrev pub so_far : ℕ → ℕ → ℕ → ℕ → (ℕ → Float) → Float
-so_far src dst x n f = tap_total zero- (take (n - start src dst x) (taps src dst x)) f
-
-pub none_yet : (src dst x a : ℕ) (f : ℕ → Float) → a ≡ start src dst x → zero- ≡ so_far src dst x a f
-unfolding tap_total
-none_yet src dst x a f h = let e : a - start src dst x ≡ 0 = omega arith in rw e refl
 
 -- ---- one tap more
 
@@ -112,43 +104,66 @@ module _ {src dst : ℕ} {offsets index : List ℕ} {weight : List Float} (t : T
       let k : x < dst + 1 = omega arith in
       sym (get_or-take (dst + 1) offsets x 0 k) ∙ (ap (λ (xs : List ℕ). get_or xs x 0) t.starts ∙ get_or-tab (start src dst) (dst + 1) x 0 k)
 
-  module _ (x n : ℕ) (h : x < dst) (low : start src dst x ≤ n) (high : n < start src dst (x + 1)) where
-    -- the place of a tap of sample x is one of the table's
-    pub place-fits : n < start src dst dst
-    place-fits = omega (arith, start-rises src dst (x + 1) dst (omega arith))
+  -- those of sample x are a part of all, by what f reads of a tap
+  part-of : {A : Type 0} (f : Tap → A) (xs : List A) → take (start src dst dst) xs ≡ map f (all_taps src dst dst) → start src dst dst ≤ length xs
+      → (x : ℕ) → x < dst → take (start src dst (x + 1) - start src dst x) (drop (start src dst x) xs) ≡ map f (taps src dst x)
+  part-of {A = A} f xs p room x h =
+      let own = taps src dst x in
+      let a = start src dst x in
+      let more = start-more src dst x in
+      let rises = start-rises src dst (x + 1) dst (omega arith) in
+      let n : start src dst (x + 1) - a ≡ length own = omega arith in
+      let long : length (take (length own) (drop a xs)) ≡ length (map f own) =
+      length-take-le (length own) (drop a xs) (omega (arith, length-drop a xs)) ∙ sym (length-map own f) in
+      rw n
+      (ext_get_or (f no_tap) (take (length own) (drop a xs)) (map f own) long
+      (λ i I. let k : i < length own = omega (arith, length-take-le (length own) (drop a xs) (omega (arith, length-drop a xs))) in
+      let m : a + i < start src dst dst = omega arith in
+      get_or-take (length own) (drop a xs) i (f no_tap) k
+      ∙ (get_or-drop a xs i (f no_tap)
+      ∙ (sym (get_or-take (start src dst dst) xs (a + i) (f no_tap) m)
+      ∙ (ap (λ (ys : List A). get_or ys (a + i) (f no_tap)) p
+      ∙ (get_or-map f (all_taps src dst dst) (a + i) no_tap
+      ∙ (ap f (all-at src dst dst x i no_tap h k) ∙ sym (get_or-map f own i no_tap))))))))
 
-    own : n - start src dst x < length (taps src dst x)
-    own = omega (arith, start-more src dst x)
+  -- as the tables' offsets have it
+  module _ (x a e : ℕ) (h : x < dst) (A : a ≡ get_or offsets x 0) (E : e ≡ get_or offsets (x + 1) 0) where
+    starts-at : a ≡ start src dst x
+    starts-at = A ∙ offset_at x (omega arith)
 
-    tap-at : get_or (all_taps src dst dst) n no_tap ≡ get_or (taps src dst x) (n - start src dst x) no_tap
-    tap-at =
-        let e : start src dst x + (n - start src dst x) ≡ n = omega arith in
-        ap (λ (k : ℕ). get_or (all_taps src dst dst) k no_tap) (sym e) ∙ all-at src dst dst x (n - start src dst x) no_tap h own
+    ends-at : e ≡ start src dst (x + 1)
+    ends-at = E ∙ offset_at (x + 1) (omega arith)
 
-    from_at : get_or index n 0 ≡ (get_or (taps src dst x) (n - start src dst x) no_tap).from
-    from_at =
-        sym (get_or-take (start src dst dst) index n 0 place-fits)
-        ∙ (ap (λ (xs : List ℕ). get_or xs n 0) t.from ∙ (get_or-map (λ u. u.from) (all_taps src dst dst) n no_tap ∙ ap (λ (u : Tap). u.from) tap-at))
+    pub own-order : a ≤ e
+    own-order = omega (arith, starts-at, ends-at, start-rises src dst x (x + 1) (omega arith))
 
-    with_at : get_or weight n nan ≡ (get_or (taps src dst x) (n - start src dst x) no_tap).weight
-    with_at =
-        sym (get_or-take (start src dst dst) weight n nan place-fits)
-        ∙ (ap (λ (xs : List Float). get_or xs n nan) t.with
-        ∙ (get_or-map (λ u. u.weight) (all_taps src dst dst) n no_tap ∙ ap (λ (u : Tap). u.weight) tap-at))
+    pub own-room : e ≤ start src dst dst
+    own-room = omega (arith, ends-at, start-rises src dst (x + 1) dst (omega arith))
 
-    -- the tap reads inside the source
-    pub from-inside : get_or index n 0 < src
-    from-inside = omega (arith, from_at, taps-from src dst x no_tap t.some (n - start src dst x) own)
+    pub own-sources : take (e - a) (drop a index) ≡ tap_sources (taps src dst x)
+    own-sources = rw (starts-at, ends-at) (part-of (λ u. u.from) index t.from t.index_room x h)
 
-    -- one tap more of sample x, over any row
-    pub one_more : (v : Float) (f : ℕ → Float) → v ≡ so_far src dst x n f
-        → add binary32 v (mul binary32 (get_or weight n nan) (f (get_or index n 0))) ≡ so_far src dst x (n + 1) f
-    one_more v f e =
-        let i : n + 1 - start src dst x ≡ n - start src dst x + 1 = omega arith in
-        rw (i, with_at, from_at) (total-take zero- v (taps src dst x) (n - start src dst x) no_tap f own e)
+    pub own-inside : (k : ℕ) → k < length (take (e - a) (drop a index)) → get_or (take (e - a) (drop a index)) k 0 < src
+    own-inside k h' =
+        let ts = taps src dst x in
+        let less : k < length ts = omega (arith, ap length own-sources, length-map ts (λ (u : Tap). u.from), h') in
+        omega (arith, ap (λ (xs : List ℕ). get_or xs k 0) own-sources, get_or-map (λ (u : Tap). u.from) ts k no_tap, taps-from src dst x no_tap t.some k less)
 
--- all taps of sample x
-pub all_there : (src dst x e : ℕ) (v : Float) (f : ℕ → Float) → e ≡ start src dst (x + 1) → v ≡ so_far src dst x e f → v ≡ across src dst f x
-unfolding across
-all_there src dst x e v f E h =
-    h ∙ ap (λ (ts : List Tap). tap_total zero- ts f) (take_all (e - start src dst x) (taps src dst x) (omega (arith, start-more src dst x)))
+    pub own-weights : take (e - a) (drop a weight) ≡ tap_weights (taps src dst x)
+    own-weights = rw (starts-at, ends-at) (part-of (λ u. u.weight) weight t.with t.weight_room x h)
+
+-- ---- the sum over the first taps of sample x, from -0
+
+module _ (src dst x : ℕ) (f : ℕ → Float) where
+  pub all_there : (m : ℕ) (v : Float) → m ≡ length (taps src dst x) → v ≡ tap_total zero- (take m (taps src dst x)) f → v ≡ across src dst f x
+  unfolding across
+  all_there m v e h = h ∙ ap (λ (ts : List Tap). tap_total zero- ts f) (take_all m (taps src dst x) (omega arith))
+
+  -- a tap more, of the lists of their sources and weights
+  module _ (m : ℕ) (less : m < length (taps src dst x)) (k : ℕ) (q : Float) (from : k ≡ get_or (tap_sources (taps src dst x)) m 0)
+      (with : q ≡ get_or (tap_weights (taps src dst x)) m nan) where
+    pub tap-more : (v : Float) → v ≡ tap_total zero- (take m (taps src dst x)) f
+        → add binary32 v (mul binary32 q (f k)) ≡ tap_total zero- (take (m + 1) (taps src dst x)) f
+    tap-more v e =
+        rw (from, with, get_or-map (λ u. u.from) (taps src dst x) m no_tap, get_or-map (λ u. u.weight) (taps src dst x) m no_tap)
+        (total-take zero- v (taps src dst x) m no_tap f less e)

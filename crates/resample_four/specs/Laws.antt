@@ -1,6 +1,6 @@
 -- Laws on four rows at once: side by side, one row behind the other, and their lumas.
-use Rattle.std.specs.Prelude.{◌≡◌, refl, Bool, true, false, cond, ℕ, zero, suc, ◌+◌, ◌-◌, ◌*◌, ◌/◌, ◌%◌, ◌≤◌, ◌<◌, T, ltb, pos, length, set, take, Float}
-use Rattle.std.proofs.Common.{sym, ◌∙◌, inl, inr, eq-or-lt_of_le, ltb→lt, lt→ltb, length-set, length-drop, ext_get_or, length-take-le, get_or-set_same, get_or-set_other}
+use Rattle.std.specs.Prelude.{◌≡◌, refl, Bool, true, false, not, min, cond, ℕ, zero, suc, ◌+◌, ◌-◌, ◌*◌, ◌/◌, ◌%◌, ◌≤◌, ◌<◌, T, ltb, pos, length, set, Float}
+use Rattle.std.proofs.Common.{sym, ◌∙◌, inl, inr, eq-or-lt_of_le, ltb→lt, nltb→le, lt→ltb, length-set, ext_get_or, get_or-set_same, get_or-set_other}
 use Rattle.std.proofs.Math.Path.{ap, ap₂}
 use mathlib.Core.List.{List, ◌++◌}
 use native.Mathlib.Omega.{arith}
@@ -143,6 +143,14 @@ pub capped-own : (i height : ℕ) → i < height → capped_at i height ≡ i
 unfolding capped_at
 capped-own i height h = rw (is_true (ltb i height) (lt→ltb i height h)) refl
 
+pub capped-min : (i height : ℕ) → 0 < height → min i (height - 1) ≡ capped_at i height
+unfolding capped_at
+capped-min i height h = go (ltb i height) (ltb→lt i height) (nltb→le i height)
+  where
+    go : (b : Bool) → (T b → i < height) → (T (not b) → height ≤ i) → min i (height - 1) ≡ cond b i (height - 1)
+    go true f g = let l : i < height = f tt in omega arith
+    go false f g = let l : height ≤ i = g tt in omega arith
+
 -- of four things, by the rows from row 4 g on, the one of row l
 one-row : {A : Type 0} (f : ℕ → A) (g height l : ℕ) → l < 4
     → of_four (f (capped_at (4 * g) height)) (f (capped_at (4 * g + 1) height)) (f (capped_at (4 * g + 2) height)) (f (capped_at (4 * g + 3) height)) l
@@ -153,14 +161,6 @@ one-row f g height (suc zero) h = refl
 one-row f g height (suc (suc zero)) h = refl
 one-row f g height (suc (suc (suc zero))) h = refl
 one-row f g height (suc (suc (suc (suc l)))) h = absurd (omega arith)
-
--- row i as its own part of the samples
-pub own-part : (n : ℕ) (samples : List ℕ) (i r : ℕ) → i ≡ r → take (i * n + n - i * n) (drop (i * n) samples) ≡ row_of n samples r
-unfolding row_of
-own-part n samples i r e = let m : i * n + n - i * n ≡ n = omega arith in rw (m, e) refl
-
-pub part-long : (n : ℕ) (samples : List ℕ) (a : ℕ) → a + n ≤ length samples → length (take (a + n - a) (drop a samples)) ≡ n
-part-long n samples a h = let m : a + n - a ≡ n = omega arith in rw m (length-take-le n (drop a samples) (omega (arith, length-drop a samples)))
 
 module _ (width height channels : ℕ) (samples : List ℕ) (g : ℕ) (some : 0 < width) where
   -- the lumas of the four rows are those of the picture's

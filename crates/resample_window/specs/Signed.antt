@@ -1,8 +1,9 @@
 -- Source numbers are signed and small: their sums and differences fit in 64 bits, and a clamp by tests is the clamp.
-use Rattle.std.specs.Prelude.{◌≡◌, ℕ, zero, suc, ◌+◌, ◌-◌, ◌^◌, ◌<◌, ◌≤◌, Bool, true, false, cond, T, ℤ, pos, negsuc, ◌+ℤ◌, ◌-ℤ◌, neg_ℤ, FitsSigned, int_lt, nat_lt, unsigned_abs, refl}
-use Rattle.std.proofs.Common.{sym, subst, ◌∙◌, not-suc-le-zero, arith, ltb-true, ltb-false, le-ltb}
+use Rattle.std.specs.Prelude.{◌≡◌, min, ℕ, zero, suc, ◌+◌, ◌-◌, ◌^◌, ◌<◌, ◌≤◌, Bool, true, false, cond, T, ℤ, pos, negsuc, ◌+ℤ◌, ◌-ℤ◌, neg_ℤ, FitsSigned, int_lt, nat_lt, unsigned_abs, ◌≤ℤ◌, ◌<ℤ◌, refl}
+use Rattle.std.proofs.Common.{sym, subst, ◌∙◌, arith, ltb-false, le-ltb}
 use Rattle.std.specs.Int.Signed.{mag, non_neg}
-use Rattle.std.specs.Int.{w64}
+use Rattle.std.proofs.lemmas.Int.{ints}
+use Rattle.std.specs.Int.{w64, FitsUnsignedBits}
 use Rattle.resample_window.specs.Window.{clamp_of, numbers}
 
 -- ---- sizes
@@ -65,26 +66,69 @@ numbers-small a b A B = go (int_lt b a)
     go true = omega arith
     go false = omega (arith, diff-mag a b A B, nat-mag (b -ℤ a))
 
+-- ---- the numbers from a to b
+
+pos-abs : (z : ℤ) → T (non_neg z) → pos (unsigned_abs z) ≡ z
+pos-abs (pos n) t = refl
+pos-abs (negsuc n) t = absurd t
+
+below : (a b : ℤ) → int_lt a b ≡ true → a <ℤ b
+below a b e = record { lt = subst T (sym e) tt }
+
+module _ (a b : ℤ) where
+  -- number k of those from a on is one of them where k is below their count
+  pub in-numbers : (k : ℕ) → k < numbers a b → (a +ℤ pos k) ≤ℤ b
+  unfolding numbers
+  in-numbers k h = go (int_lt b a) refl h
+    where
+      go : (t : Bool) → int_lt b a ≡ t → k < cond t 0 (suc (unsigned_abs (b -ℤ a))) → (a +ℤ pos k) ≤ℤ b
+      go true e h = absurd (omega arith)
+      go false e h = let p : pos (unsigned_abs (b -ℤ a)) ≡ b -ℤ a = pos-abs _ (diff-sign a b e) in omega (arith, ints)
+
+  -- and only there
+  pub numbers-in : (k : ℕ) → (a +ℤ pos k) ≤ℤ b → k < numbers a b
+  unfolding numbers
+  numbers-in k h = go (int_lt b a) refl
+    where
+      go : (t : Bool) → int_lt b a ≡ t → k < cond t 0 (suc (unsigned_abs (b -ℤ a)))
+      go true e = let l : b <ℤ a = below b a e in absurd (omega (arith, ints))
+      go false e = let p : pos (unsigned_abs (b -ℤ a)) ≡ b -ℤ a = pos-abs _ (diff-sign a b e) in omega (arith, ints)
+
+  pub numbers-none : b <ℤ a → numbers a b ≡ 0
+  numbers-none h = go (numbers a b) (λ k l. in-numbers k l)
+    where
+      go : (n : ℕ) → ((k : ℕ) → k < n → (a +ℤ pos k) ≤ℤ b) → n ≡ 0
+      go zero f = refl
+      go (suc n) f = let l : (a +ℤ pos 0) ≤ℤ b = f 0 (omega arith) in absurd (omega (arith, ints))
+
+-- one more from a than from the number behind it
+pub numbers-first : (a b : ℤ) → a ≤ℤ b → numbers a b ≡ suc (numbers (a +ℤ pos 1) b)
+unfolding numbers
+numbers-first a b h = go (int_lt b a) refl (int_lt b (a +ℤ pos 1)) refl
+  where
+    go : (s : Bool) → int_lt b a ≡ s → (t : Bool) → int_lt b (a +ℤ pos 1) ≡ t
+        → cond s 0 (suc (unsigned_abs (b -ℤ a))) ≡ suc (cond t 0 (suc (unsigned_abs (b -ℤ (a +ℤ pos 1)))))
+    go true e t f = let l : b <ℤ a = below b a e in absurd (omega (arith, ints))
+    go false e true f =
+        let p : pos (unsigned_abs (b -ℤ a)) ≡ b -ℤ a = pos-abs _ (diff-sign a b e) in
+        let l : b <ℤ (a +ℤ pos 1) = below b (a +ℤ pos 1) f in
+        omega (arith, ints)
+    go false e false f =
+        let p : pos (unsigned_abs (b -ℤ a)) ≡ b -ℤ a = pos-abs _ (diff-sign a b e) in
+        let q : pos (unsigned_abs (b -ℤ (a +ℤ pos 1))) ≡ b -ℤ (a +ℤ pos 1) = pos-abs _ (diff-sign (a +ℤ pos 1) b f) in
+        omega (arith, ints)
+
 -- ---- a clamp
 
-pub clamp-low : (z : ℤ) (n : ℕ) → int_lt z (pos 0) ≡ true → 0 ≡ clamp_of n z
+pub clamp-low : (z : ℤ) (n : ℕ) → FitsSigned w64 z → ¬ (FitsUnsignedBits 64 z) → 0 ≡ clamp_of n z
 unfolding clamp_of
-clamp-low (pos k) n t = absurd (not-suc-le-zero (ltb-true k 0 t))
-clamp-low (negsuc k) n t = refl
+clamp-low (pos k) n f h = absurd (h (omega arith))
+clamp-low (negsuc k) n f h = refl
 
-pub at-least-zero : (z : ℤ) → int_lt z (pos 0) ≡ false → T (non_neg z)
-at-least-zero (pos k) f = tt
-at-least-zero (negsuc k) f = absurd (subst T f tt)
-
-pub clamp-inside : (z : ℤ) (n : ℕ) → int_lt z (pos 0) ≡ false → unsigned_abs z < n → unsigned_abs z ≡ clamp_of n z
+pub clamp-inside : (z : ℤ) (n : ℕ) → FitsUnsignedBits 64 z → min (unsigned_abs z) (n - 1) ≡ clamp_of n z
 unfolding clamp_of
-clamp-inside (pos k) n f h = omega arith
-clamp-inside (negsuc k) n f h = absurd (subst T f tt)
-
-pub clamp-high : (z : ℤ) (n : ℕ) → int_lt z (pos 0) ≡ false → n ≤ unsigned_abs z → n - 1 ≡ clamp_of n z
-unfolding clamp_of
-clamp-high (pos k) n f h = omega arith
-clamp-high (negsuc k) n f h = absurd (subst T f tt)
+clamp-inside (pos k) n h = refl
+clamp-inside (negsuc k) n h = absurd h
 
 pub clamp-below : (z : ℤ) (n : ℕ) → 0 < n → clamp_of n z < n
 unfolding clamp_of

@@ -7,7 +7,8 @@ use Rattle.std.proofs.Math.ListN.{length-append, length-drop, length-map, get_or
 use Rattle.std.proofs.Math.Seq.{paste, paste-suc, take_all, take_at, drop-append-add}
 use Rattle.seq.specs.Lists.{lines}
 use Rattle.resample_window.specs.declared.Window.{Window}
-use Rattle.resample_window.specs.Window.{Tap, window_of, taps_of, taps, Small, all_taps, start, onto}
+use Rattle.resample_window.specs.declared.Tap.{Tap}
+use Rattle.resample_window.specs.Window.{window_of, taps_of, taps, Small, all_taps, start, onto}
 use Rattle.resample_window.specs.Range.{first_small, last-small}
 
 pub window-small : (w : Window) (src dst i : ℕ) → w ≡ window_of src dst i → Small w

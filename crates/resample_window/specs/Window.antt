@@ -1,14 +1,13 @@
 -- The triangle kernel (section 15 of the scope): the window of an output sample, the tent and the weight of a
 -- source number, and the taps, the numbers that have a weight, clamped to the edge. Definitions only.
-use Rattle.std.specs.Prelude.{ℕ, zero, suc, ◌-◌, ◌^◌, ◌<◌, min, Bool, cond, ◌&&◌, List, [], ◌∷◌, ◌++◌, map, length, drop, ℤ, pos, negsuc, ◌+ℤ◌, ◌-ℤ◌, int_lt, nat_le, nat_lt, unsigned_abs, Float}
+use Rattle.std.specs.Prelude.{ℕ, zero, suc, ◌-◌, ◌^◌, ◌<◌, min, Bool, cond, ◌&&◌, List, [], ◌∷◌, ◌++◌, map, length, drop, ℤ, pos, negsuc, ◌+ℤ◌, ◌-ℤ◌, int_lt, nat_le, nat_lt, unsigned_abs, Float, Option, Some, None}
 use Rattle.std.specs.Int.Signed.{mag}
 use Rattle.std.specs.Float.{binary32, binary64}
 use Rattle.std.specs.Float.Ieee.{of_int, to_signed, add, sub, mul, div, lt}
 use Rattle.float.specs.Base.{zero+, two_to, half}
 use Rattle.float.specs.Calls.{floor, ceil, narrow, absolute, larger}
 use Rattle.resample_window.specs.declared.Window.{Window}
-use Rattle.resample_window.specs.declared.Weight.{Weight}
-use Rattle.resample_window.specs.declared.Weight.TheVariants.{Of, Nothing}
+use Rattle.resample_window.specs.declared.Tap.{Tap}
 use Rattle.seq.specs.Lists.{lines}
 use Rattle.picture.specs.Sizes.{longest_side}
 
@@ -19,8 +18,8 @@ unfoldable pub tent_of : Window → ℤ → Float
 tent_of w j = sub binary64 (two_to 0) (absolute (div binary64 (sub binary64 (of_int binary64 j) w.center) w.support))
 
 -- tent and sum each narrowed, then divided; a number whose tent is not above zero has no weight
-unfoldable pub weight_of : Window → ℤ → Weight
-weight_of w j = cond (lt zero+ (tent_of w j)) (Of (div binary32 (narrow (tent_of w j)) (narrow w.sum))) Nothing
+unfoldable pub weight_of : Window → ℤ → Option Float
+weight_of w j = cond (lt zero+ (tent_of w j)) (Some (div binary32 (narrow (tent_of w j)) (narrow w.sum))) None
 
 -- the sum of the positive tents of n numbers from `first` on, in rising order
 unfoldable pub tent_sum : Window → ℕ → Float
@@ -72,19 +71,14 @@ window_of src dst i = cond (has_window src dst i) (with_sum (unsummed (center_of
 
 -- ---- its taps
 
--- a source number after it is clamped, and its weight
-pub record Tap : Type 0 where
-  pub from : ℕ
-  pub weight : Float
-
 -- to 0 .. src - 1
 unfoldable pub clamp_of : ℕ → ℤ → ℕ
 clamp_of src (pos k) = min k (src - 1)
 clamp_of src (negsuc k) = 0
 
-abbrev pub tap_of : Weight → ℕ → List Tap
-tap_of (Of q) k = record { from = k; weight = q } ∷ []
-tap_of Nothing k = []
+abbrev pub tap_of : Option Float → ℕ → List Tap
+tap_of (Some q) k = record { from = k; weight = q } ∷ []
+tap_of None k = []
 
 -- of n numbers from `first` on, in rising order
 unfoldable pub taps_to : Window → ℕ → ℕ → List Tap

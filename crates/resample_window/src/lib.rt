@@ -3,14 +3,18 @@
 // specs/Window.antt; what bounds a window, its taps and its weights is the crate `resample_window_laws`.
 #![tactic(auto)]
 
-ghost use Rattle.std.specs.Prelude.{◌≡◌, ◌+◌, ◌^◌, ◌<◌, ◌≤◌, length, pos, ◌+ℤ◌};
+ghost use Rattle.std.specs.Prelude.{◌≡◌, ◌+◌, ◌^◌, ◌<◌, ◌≤◌, length, Option};
 ghost use Rattle.std.proofs.Math.Seq.{paste};
 ghost use Rattle.std.specs.Int.Signed.{mag};
 ghost use Rattle.seq.specs.Lists.{filled};
 ghost use Rattle.resample_window.specs.Window.{tent_of, weight_of, tent_sum, numbers, is_side, has_window, empty, unsummed, with_sum, window_of, clamp_of, taps_of, Small, start, tap_sources, tap_weights, all_taps, onto};
 
+pub mod walk;
+
 use float::{abs_f64, ceil_f64_to_i64, floor_f64_to_i64, max_f64, narrow_f64};
+use picture::LONGEST;
 use std::num::nearest_i64_to_f64;
+use walk::WindowTaps;
 
 // The source numbers that one output sample reads run from `first` to `last`; `sum` is the sum of their positive
 // tents.
@@ -23,11 +27,11 @@ pub struct Window {
     pub sum: f64,
 }
 
-// The weight of a source number, if the kernel reaches it.
+// A source number after it is clamped to the edge, and its weight.
 #[derive(Clone, Copy)]
-pub enum Weight {
-    Of(f32),
-    Nothing,
+pub struct Tap {
+    pub from: usize,
+    pub weight: f32,
 }
 
 impl Window {
@@ -49,83 +53,61 @@ impl Window {
         1.0 - abs_f64((nearest_i64_to_f64(j) - self.center) / self.support)
     }
 
-    // Of the number as it stands, before it is clamped to the edge.
-    pub fn weight(self, j: i64) -> Weight
+    // Of the number as it stands, before it is clamped to the edge; none where the kernel does not reach it.
+    pub fn weight(self, j: i64) -> Option<f32>
         ensures { result ≡ weight_of self j }
     {
         let tent = self.tent(j);
         let sum = self.sum;
         if tent > 0.0 {
-            Weight::Of(narrow_f64(tent) / narrow_f64(sum))
+            Some(narrow_f64(tent) / narrow_f64(sum))
         } else {
-            Weight::Nothing
+            None
         }
     }
 
+    // The numbers that have a weight, in rising order, clamped to those of src samples.
+    pub fn taps(self, src: usize) -> WindowTaps
+        requires { Small self × (0 < src) }
+        ensures { result ≡ taps_of self src }
+    {
+        WindowTaps::new(self, src)
+    }
+
     fn sum_tents(self) -> f64
-        requires { Small self }
         ensures { result ≡ tent_sum self (numbers self.first self.last) }
     {
-        let first = self.first;
-        let last = self.last;
-        let count = count(first, last);
         let mut sum = 0.0f64;
-        for k in 0..count {
-            let t = self.tent(nth(first, k));
+        for j in self.first..=self.last {
+            let t = self.tent(j);
             if t > 0.0 {
-                sum = sum + t;
+                sum += t;
             }
         }
         sum
     }
 
     fn summed(self) -> Window
-        requires { Small self }
         ensures { result ≡ with_sum self }
     {
         Window {
-            first: self.first,
-            last: self.last,
-            center: self.center,
-            support: self.support,
             sum: self.sum_tents(),
+            ..self
         }
     }
 }
 
-// How many source numbers there are from first to last.
-pub fn count(first: i64, last: i64) -> usize
-    requires { (mag first < 2 ^ 30) × (mag last < 2 ^ 30) }
-    ensures { result ≡ numbers first last }
-{
-    if last < first {
-        return 0;
-    }
-    (last - first) as usize + 1
-}
-
-// Number k of those from first on.
-pub fn nth(first: i64, k: usize) -> i64
-    requires { (mag first < 2 ^ 30) × (k ≤ 2 ^ 32) }
-    ensures { result ≡ first +ℤ pos k }
-{
-    first + k as i64
-}
-
-fn sized(n: usize) -> bool
+// A side that a picture may have.
+pub fn is_side(n: usize) -> bool
     ensures { result ≡ is_side n }
 {
-    if 0 < n { n <= 8192 } else { false }
+    0 < n && n <= LONGEST
 }
 
 fn has_window(src: usize, dst: usize, i: usize) -> bool
     ensures { result ≡ has_window src dst i }
 {
-    if sized(src) {
-        if sized(dst) { i < dst } else { false }
-    } else {
-        false
-    }
+    is_side(src) && is_side(dst) && i < dst
 }
 
 fn empty() -> Window
@@ -166,11 +148,10 @@ pub fn clamp(j: i64, src: usize) -> usize
     requires { 0 < src }
     ensures { result ≡ clamp_of src j }
 {
-    if j < 0 {
-        return 0;
+    match usize::try_from(j) {
+        Ok(k) => k.min(src - 1),
+        Err(_) => 0,
     }
-    let k = j as usize;
-    if k < src { k } else { src - 1 }
 }
 
 // Adds the taps of a window from place n on, and answers the place after them.
@@ -180,18 +161,11 @@ fn push(w: Window, src: usize, n: usize, index: &mut [u16], weight: &mut [f32]) 
     ensures from { index.new ≡ paste index.old n (tap_sources (taps_of w src)) (length (taps_of w src)) }
     ensures with { weight.new ≡ paste weight.old n (tap_weights (taps_of w src)) (length (taps_of w src)) }
 {
-    let first = w.first;
-    let last = w.last;
-    let count = count(first, last);
     let mut at = n;
-    for k in 0..count {
-        let j = nth(first, k);
-        let Weight::Of(q) = w.weight(j) else {
-            continue;
-        };
-        index[at] = clamp(j, src) as u16;
-        weight[at] = q;
-        at = at + 1;
+    for tap in w.taps(src) {
+        index[at] = tap.from as u16;
+        weight[at] = tap.weight;
+        at += 1;
     }
     at
 }

@@ -2,7 +2,8 @@
 use Rattle.std.specs.Prelude.{◌≡◌, List, ℕ, ℤ}
 use Rattle.std.specs.Float.{binary32}
 use Rattle.std.specs.Float.Ieee.{of_bits}
-use Rattle.resample_window.specs.Window.{Tap, window_of, taps}
+use Rattle.resample_window.specs.declared.Tap.{Tap}
+use Rattle.resample_window.specs.Window.{window_of, taps}
 
 abbrev pub tap : ℕ → ℕ → Tap
 tap k b = record { from = k; weight = of_bits binary32 b }

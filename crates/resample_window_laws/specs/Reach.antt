@@ -1,7 +1,7 @@
 -- How many taps a window has: a number with a positive tent lies less than `reach`, the least whole number that is at least src
 -- / dst, from the centre, so there are at most 2 * reach of them.
 -- In units of the smallest float the distance is exact, and every step after it is a rounding, which keeps the order. A tap reads inside the source.
-use Rattle.std.specs.Prelude.{◌≡◌, refl, ◌⊎◌, Bool, true, false, not, cond, List, [], ◌∷◌, ◌++◌, ℕ, zero, suc, ◌+◌, ◌-◌, ◌*◌, ◌/◌, ◌^◌, ◌≤◌, ◌<◌, ℤ, pos, negsuc, neg_ℤ, nat_abs, ◌+ℤ◌, ◌-ℤ◌, ◌*ℤ◌, length, get_or, T, ltb, eqb, Float}
+use Rattle.std.specs.Prelude.{Some, None, ◌≡◌, refl, ◌⊎◌, Bool, true, false, not, cond, List, [], ◌∷◌, ◌++◌, ℕ, zero, suc, ◌+◌, ◌-◌, ◌*◌, ◌/◌, ◌^◌, ◌≤◌, ◌<◌, ℤ, pos, negsuc, neg_ℤ, nat_abs, ◌+ℤ◌, ◌-ℤ◌, ◌*ℤ◌, length, get_or, T, ltb, eqb, Float}
 use Rattle.std.proofs.Common.{sym, ap, ◌∙◌, subst, inl, inr, true≢false, zero-le, suc-le-suc, le_of_suc-le-suc, le_refl, le_trans, le_of_eq, lt_of_lt_of_le, lt_of_not-le, zero-lt-suc, mul-one, one-mul, zero-mul, mul_comm, mul_assoc, mul-pos, mul-le-mul, mul-le-mul_right, add-mul, suc-mul, lt_of_mul-lt-mul_right, div-lt_iff_lt-mul, le-div_iff_mul-le, arith, length-append, ltb→lt, nltb→le, eqb→eq, lit≤, pow_pos}
 use Rattle.std.proofs.Math.Nat.{lt-div-mul-add}
 use Rattle.std.proofs.Math.IntN.{suc_ℤ-*ℤ, +ℤ-suc_ℤ, +ℤ_assoc, +ℤ_comm, +ℤ_idr}
@@ -25,9 +25,9 @@ use Rattle.float_laws.specs.Exact.{abs-signed, is-neg, every-finite}
 use Rattle.float_laws.specs.AddError.{add_once}
 use Rattle.float_laws.specs.Bounds.{holds-whole, round-within, within-finite}
 use Rattle.resample_window.specs.declared.Window.{Window}
-use Rattle.resample_window.specs.declared.Weight.{Weight}
-use Rattle.resample_window.specs.declared.Weight.TheVariants.{Of, Nothing}
-use Rattle.resample_window.specs.Window.{tent_of, weight_of, numbers, center_of, support_of, unsummed, with_sum, empty, window_of, Tap, clamp_of, tap_of, taps_to, taps_of, taps}
+use Rattle.resample_window.specs.declared.Tap.{Tap}
+use Rattle.resample_window.specs.Steps.{taps_to-from}
+use Rattle.resample_window.specs.Window.{tent_of, weight_of, numbers, center_of, support_of, unsummed, with_sum, empty, window_of, clamp_of, tap_of, taps_to, taps_of, taps}
 use Rattle.picture.specs.Sizes.{longest_side}
 use Rattle.resample_window.specs.Signed.{clamp-below}
 use Rattle.resample_window_laws.specs.Support.{one-is, Between, support-between, center-fits, nat_abs-add, window-numbers-small}
@@ -306,7 +306,7 @@ tap-count : (w : Window) (j : ℤ) (k : ℕ) → length (tap_of (weight_of w j) 
 unfolding weight_of
 tap-count w j k = go (lt zero+ (tent_of w j)) _
   where
-    go : (b : Bool) (q : Float) → length (tap_of (cond b (Of q) Nothing) k) ≡ cond b 1 0
+    go : (b : Bool) (q : Float) → length (tap_of (cond b (Some q) None) k) ≡ cond b 1 0
     go true q = refl
     go false q = refl
 
@@ -382,26 +382,6 @@ taps-room-up dst h k =
     le_trans (mul-le-mul k (let m : 2 * ((256 + dst - 1) / dst) ≤ 2 = omega arith in m)) (lit≤ tt)
 
 -- ---- a tap reads inside the source
-
--- each of two lists, so each of both
-pub each_append : (P : Tap → Type 0) (xs ys : List Tap) (z : Tap) → ((n : ℕ) → n < length xs → P (get_or xs n z))
-    → ((n : ℕ) → n < length ys → P (get_or ys n z)) → (n : ℕ) → n < length (xs ++ ys) → P (get_or (xs ++ ys) n z)
-each_append P [] ys z h k n l = k n l
-each_append P (x ∷ xs) ys z h k zero l = h 0 (zero-lt-suc (length xs))
-each_append P (x ∷ xs) ys z h k (suc n) l = each_append P xs ys z (λ m q. h (suc m) (suc-le-suc q)) k n (le_of_suc-le-suc l)
-
-tap-inside : (src : ℕ) (q : Weight) (k : ℕ) (z : Tap) → k < src → (n : ℕ) → n < length (tap_of q k) → (get_or (tap_of q k) n z).from < src
-tap-inside src (Of q) k z h zero l = h
-tap-inside src (Of q) k z h (suc n) l = absurd (let m : suc n < 1 = l in omega arith)
-tap-inside src Nothing k z h n l = absurd (let m : n < 0 = l in omega arith)
-
-pub taps_to-from : (w : Window) (src : ℕ) (z : Tap) → 0 < src → (n m : ℕ) → m < length (taps_to w src n) → (get_or (taps_to w src n) m z).from < src
-unfolding taps_to
-taps_to-from w src z h zero m l = absurd (let k : m < 0 = l in omega arith)
-taps_to-from w src z h (suc n) m l =
-    each_append (λ (t : Tap). t.from < src) (taps_to w src n) (tap_of (weight_of w (w.first +ℤ pos n)) (clamp_of src (w.first +ℤ pos n))) z
-    (taps_to-from w src z h n)
-    (tap-inside src (weight_of w (w.first +ℤ pos n)) (clamp_of src (w.first +ℤ pos n)) z (clamp-below (w.first +ℤ pos n) src h)) m l
 
 pub taps-from : (src dst i : ℕ) (z : Tap) → 0 < src → (n : ℕ) → n < length (taps src dst i) → (get_or (taps src dst i) n z).from < src
 unfolding taps

@@ -1,7 +1,7 @@
 -- The weights of a window's taps are finite, with the sign clear, and at most 1. A positive tent is at least 2 ^ -53, since a
 -- float below 1 leaves that much; a sum of tents is at least each of them, and narrowing keeps the order,
 -- so the narrowed sum isn't zero, and a weight is one rounding of a fraction that is at most 1.
-use Rattle.std.specs.Prelude.{◌≡◌, refl, Bool, true, false, not, cond, ℕ, zero, suc, ◌+◌, ◌-◌, ◌*◌, ◌^◌, ◌≤◌, ◌<◌, ℤ, pos, negsuc, ◌+ℤ◌, length, get_or, T, ltb, leb, Float}
+use Rattle.std.specs.Prelude.{Some, None, ◌≡◌, refl, Bool, true, false, not, cond, ℕ, zero, suc, ◌+◌, ◌-◌, ◌*◌, ◌^◌, ◌≤◌, ◌<◌, ℤ, pos, negsuc, ◌+ℤ◌, length, get_or, T, ltb, leb, Float}
 use Rattle.std.proofs.Common.{sym, ap, ◌∙◌, subst, inl, inr, zero-le, le_of_suc-le-suc, not-suc-le-zero, add-le-add, add-mul, le_refl, le_trans, le_of_eq, le_of_lt, lt_of_lt_of_le, zero-lt-suc, mul-one, one-mul, zero-mul, mul_comm, mul-pos, mul-le-mul, mul-le-mul_right, pow-suc, eq-or-lt_of_le, add-one, arith, ltb→lt, nltb→le, leb→le, lit≤, pow_pos, pow_mono}
 use Rattle.std.proofs.Math.Nat.{le-suc}
 use Rattle.std.proofs.Math.Dec.{T_prop, nleb→lt}
@@ -23,11 +23,12 @@ use Rattle.float_laws.specs.AddError.{size-within}
 use Rattle.float_laws.specs.Values.{Within, Holds}
 use Rattle.float_laws.specs.Bounds.{holds-whole, holds-scaled, round-within}
 use Rattle.resample_window.specs.declared.Window.{Window}
-use Rattle.resample_window.specs.declared.Weight.TheVariants.{Of, Nothing}
-use Rattle.resample_window.specs.Window.{tent_of, weight_of, tent_sum, numbers, center_of, support_of, unsummed, with_sum, empty, Tap, clamp_of, tap_of, taps_to, taps_of, taps}
+use Rattle.resample_window.specs.declared.Tap.{Tap}
+use Rattle.resample_window.specs.Window.{tent_of, weight_of, tent_sum, numbers, center_of, support_of, unsummed, with_sum, empty, clamp_of, tap_of, taps_to, taps_of, taps}
 use Rattle.resample_window_laws.specs.Support.{one-is, window-numbers-small}
 use Rattle.resample_window.specs.Range.{window-cases}
-use Rattle.resample_window_laws.specs.Reach.{float_one, at-most-sum, is_reached, each_append}
+use Rattle.resample_window_laws.specs.Reach.{float_one, at-most-sum, is_reached}
+use Rattle.resample_window.specs.Steps.{each_append}
 
 -- ---- a rounded fraction that is at most the whole number b, in units of the format's smallest value
 
@@ -292,8 +293,8 @@ weight-share w n k N h t =
 
 -- ---- of every tap
 
-tap-share : (b : Bool) (q : Float) (k : ℕ) (z : Tap) → (T b → Share q) → (m : ℕ) → m < length (tap_of (cond b (Of q) Nothing) k)
-    → Share (get_or (tap_of (cond b (Of q) Nothing) k) m z).weight
+tap-share : (b : Bool) (q : Float) (k : ℕ) (z : Tap) → (T b → Share q) → (m : ℕ) → m < length (tap_of (cond b (Some q) None) k)
+    → Share (get_or (tap_of (cond b (Some q) None) k) m z).weight
 tap-share true q k z h zero l = h tt
 tap-share true q k z h (suc m) l = absurd (let x : suc m < 1 = l in omega arith)
 tap-share false q k z h m l = absurd (let x : m < 0 = l in omega arith)

@@ -1,13 +1,11 @@
--- After k numbers the taps among them stand from place n on.
-use Rattle.std.proofs.Common.{◌≡◌, ◌+◌, ◌-◌, ◌≤◌, length}
+-- The taps that came stand from place n on, and with those that are left they are all.
+use Rattle.std.proofs.Common.{◌≡◌, ◌+◌, ◌++◌, length}
 use lib.Seq.{paste}
-use Rattle.resample_window.specs.Window.{taps_to, taps_of, tap_sources, tap_weights}
+use Rattle.resample_window.specs.Window.{taps_of, tap_sources, tap_weights}
 use Rattle.resample_window.proofs.push.Given as goal
 
-abbrev pub invariant-loop-k : goal.invariant-loop-k
-invariant-loop-k l =
-    (l.k ≤ l.count) × (l.at ≡ l.n + length (taps_to l.w l.src l.k)) × (l.index ≡ paste l.initial.index l.n (tap_sources (taps_of l.w l.src)) (length (taps_to l.w l.src l.k)))
-    × (l.weight ≡ paste l.initial.weight l.n (tap_weights (taps_of l.w l.src)) (length (taps_to l.w l.src l.k))) × (length l.index ≡ length l.initial.index) × (length l.weight ≡ length l.initial.weight)
-
-abbrev pub decreases-loop-k : goal.decreases-loop-k
-decreases-loop-k l = l.count - l.k
+abbrev pub invariant-loop-tap : goal.invariant-loop-tap
+invariant-loop-tap l =
+    (l.yielded ++ l.tap-iterator ≡ taps_of l.fn.w l.src) × (l.at ≡ l.n + length l.yielded)
+    × (l.index ≡ paste l.fn.index l.n (tap_sources (taps_of l.fn.w l.src)) (length l.yielded))
+    × (l.weight ≡ paste l.fn.weight l.n (tap_weights (taps_of l.fn.w l.src)) (length l.yielded))

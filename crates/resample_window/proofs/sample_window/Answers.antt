@@ -1,19 +1,10 @@
 -- Sides and numbers are exact as floats; centre and support are the definition's, and the window's numbers are small
 -- enough to be summed over.
-use Rattle.std.proofs.Common.{◌≡◌, sym, ap, ◌∙◌, lit≤}
+use Rattle.std.proofs.Common.{◌≡◌, sym, ap, ◌∙◌}
 use Rattle.std.specs.Float.Ieee.{of_bits}
 use Rattle.resample_window.specs.Window.{scale_of, center_of, support_of, unsummed, with_sum}
-use Rattle.resample_window.specs.Range.{window-sized, small-span, product-within, larger-within}
+use Rattle.resample_window.specs.Range.{window-sized}
 use Rattle.resample_window.proofs.sample_window.Goals as goal
-
--- whatever the centre and the support are, as far as they are bounded
-pub summed-requires : goal.summed-requires
-unfolding scale_of of_bits
-summed-requires c =
-    let a = c.args in
-    let p = c.requires in
-    small-span c.unsummed.result _ _ c.unsummed.ensures (product-within a.src a.dst a.i _ p.1 p.2 p.3 p.4 (lit≤ tt))
-    (rw c.max_f64.ensures (larger-within a.src a.dst _ p.1 p.2 p.3 (lit≤ tt)))
 
 pub returns : goal.returns
 unfolding center_of scale_of support_of of_bits

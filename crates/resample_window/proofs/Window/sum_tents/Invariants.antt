@@ -1,10 +1,7 @@
--- After k numbers the sum is that of their positive tents.
-use Rattle.std.proofs.Common.{◌≡◌, ◌-◌, ◌≤◌}
-use Rattle.resample_window.specs.Window.{tent_sum}
+-- Before number j the sum is that of the positive tents of the k numbers before it.
+use Rattle.std.proofs.Common.{◌≡◌, ℕ, ◌≤◌, pos, ◌+ℤ◌}
+use Rattle.resample_window.specs.Window.{tent_sum, numbers}
 use Rattle.resample_window.proofs.Window.sum_tents.Given as goal
 
-abbrev pub invariant-loop-k : goal.invariant-loop-k
-invariant-loop-k l = (l.k ≤ l.count) × (l.sum ≡ tent_sum l.self l.k)
-
-abbrev pub decreases-loop-k : goal.decreases-loop-k
-decreases-loop-k l = l.count - l.k
+abbrev pub invariant-loop-j : goal.invariant-loop-j
+invariant-loop-j l = (k : ℕ) × (l.j ≡ l.self.first +ℤ pos k) × (k ≤ numbers l.self.first l.self.last) × (l.sum ≡ tent_sum l.self k)

@@ -1,0 +1,11 @@
+-- Three products looked up, and added in the order of the definition.
+use Rattle.std.proofs.Common.{◌+◌, arith}
+use Rattle.resample_four.specs.Laws.{luma-looked}
+use Rattle.resample_four.proofs.shares.Shares.luma.Goals as goal
+
+pub returns : goal.returns
+returns c =
+    let p = c.args.p in
+    let known = c.type_inv.row in
+    rw (c.share.ensures, c.share-2.ensures, c.share-3.ensures)
+    (luma-looked c.args.self.now.products c.args.self.now.made c.args.row.now p (omega (arith, known p)) (omega (arith, known (p + 1))) (omega (arith, known (p + 2))))

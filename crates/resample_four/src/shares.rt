@@ -1,0 +1,46 @@
+// The luma of a pixel, from products that are looked up.
+ghost use Rattle.std.specs.Prelude.{◌≡◌, ◌+◌, ◌≤◌, length, get_or};
+ghost use Rattle.std.specs.Float.{nan};
+ghost use Rattle.seq.specs.Lists.{tab};
+ghost use Rattle.resample.specs.Samples.{luma_from};
+ghost use Rattle.resample_four.specs.Four.{share_at};
+
+// What each byte adds to the luma as a red sample, then as a green one, then as a blue one.
+pub struct Shares {
+    products: [f32; 768],
+    ghost made: { products ≡ tab share_at 768 },
+}
+
+fn products() -> [f32; 768]
+    ensures { result ≡ tab share_at 768 }
+{
+    let weight = [0.299f32, 0.587, 0.114];
+    let mut products = [0.0f32; 768];
+    for (k, product) in products.iter_mut().enumerate() {
+        *product = weight[k / 256] * f32::from((k % 256) as u8);
+    }
+    products
+}
+
+impl Shares {
+    pub fn new() -> Shares {
+        Shares {
+            products: products(),
+        }
+    }
+
+    fn share(&self, at: usize, v: u8) -> f32
+        requires { at ≤ 512 }
+        ensures { result ≡ get_or self.now.products (at + v) nan }
+    {
+        self.products[at + usize::from(v)]
+    }
+
+    // The luma of the pixel of a row whose samples start at place p.
+    pub fn luma(&self, row: &[u8], p: usize) -> f32
+        requires { p + 3 ≤ length row.now }
+        ensures { result ≡ luma_from row.now p }
+    {
+        self.share(0, row[p]) + self.share(256, row[p + 1]) + self.share(512, row[p + 2])
+    }
+}
