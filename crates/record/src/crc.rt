@@ -17,7 +17,7 @@ pub fn put_crc(bytes: &mut [u8], k: usize)
     ensures { bytes.new ≡ with_crc (take k bytes.old) ++ drop (k + 4) bytes.old }
 {
     let crc = seq::big_endian(crc32::crc32(&bytes[..k]));
-    seq::copy_bytes(&crc, bytes, k);
+    seq::copy(&crc, bytes, k);
 }
 
 // The CRC-32 of the bytes before place k stands there.

@@ -85,7 +85,7 @@ impl Text {
         ensures { result ≡ text.now }
     {
         let mut bytes = [0; ROOM];
-        seq::copy_bytes(text, &mut bytes, 0);
+        seq::copy(text, &mut bytes, 0);
         Text {
             bytes,
             len: text.len(),

@@ -5,4 +5,4 @@ use Rattle.record.proofs.crc.put_crc.Goals as goal
 
 pub returns : goal.returns
 unfolding with_crc big_endian
-returns c = rw (c.copy_bytes.ensures, c.big_endian-crc.ensures, c.crc32.ensures)
+returns c = rw (c.copy.ensures, c.big_endian-crc.ensures, c.crc32.ensures)
