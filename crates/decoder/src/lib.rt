@@ -30,8 +30,7 @@ pub struct Survivor {
 pub fn viterbi(soft: &[f32; CODED]) -> [u8; RECORD]
     ensures { result ≡ bytes_of record_size (decoded floats soft.now) }
 {
-    let d = decode(soft);
-    d.bytes
+    decode(soft).bytes
 }
 
 // The same with the metric of its path.
@@ -42,18 +41,10 @@ pub fn decode(soft: &[f32; CODED]) -> Survivor
     let end = forward(soft, &mut from_odd);
     let mut bits = [0u8; STEPS];
     backward(&from_odd, end.state, &mut bits);
-    let mut bytes = [0u8; RECORD];
-    pack(&bits, &mut bytes);
     Survivor {
-        bytes,
+        bytes: pack(&bits),
         metric: end.metric,
     }
-}
-
-fn minus_infinity() -> f32
-    ensures { result ≡ inf true }
-{
-    -1.0f32 / 0.0f32
 }
 
 // The state in which the path ends, and its metric.
@@ -69,14 +60,12 @@ fn forward(soft: &[f32], decisions: &mut [u64]) -> Ended
     ensures { (result.state ≡ 0) × (result.metric ≡ strength floats soft.now)
         × (decisions.new ≡ decision_rows floats (starting floats) soft.now) }
 {
-    let mut metric = [minus_infinity(); 64];
+    let mut metric = [f32::NEG_INFINITY; 64];
     metric[0] = 0.0;
-    let mut t = 0usize;
-    while t < decisions.len() {
+    for (t, decision) in decisions.iter_mut().enumerate() {
         let s = advance(&metric, soft[2 * t], soft[2 * t + 1]);
         metric = s.metric;
-        decisions[t] = s.odd;
-        t += 1;
+        *decision = s.odd;
     }
     end_of(&metric)
 }
@@ -98,17 +87,19 @@ struct Stepped {
     odd: u64,
 }
 
+// Two loops, for the states below 32 and the others, so that no predecessor's number takes a remainder: this is the inner loop of
+// the decoder.
 fn advance(m: &[f32; 64], s0: f32, s1: f32) -> Stepped
     ensures { (result.metric ≡ next_metrics floats m.now s0 s1) × (result.odd ≡ packed (odd_at floats m.now s0 s1) 64) }
 {
     let mut next = [0.0f32; 64];
     let mut odd = 0u64;
-    for k in 0..32usize {
+    for k in 0..32 {
         let w = winner_of(m, 2 * k, k, s0, s1);
         next[k] = w.metric;
         odd = put(odd, w.odd, k);
     }
-    for k in 32..64usize {
+    for k in 32..64 {
         let w = winner_of(m, 2 * k - 64, k, s0, s1);
         next[k] = w.metric;
         odd = put(odd, w.odd, k);
@@ -116,7 +107,7 @@ fn advance(m: &[f32; 64], s0: f32, s1: f32) -> Stepped
     Stepped { metric: next, odd }
 }
 
-// A state's winner: its metric, and 1 where the odd predecessor won.
+// A state's winner: its metric, and 1 where the odd predecessor won, as the bit that is put into a step's number.
 #[derive(Clone, Copy)]
 struct Winner {
     metric: f32,
@@ -133,14 +124,15 @@ fn winner_of(m: &[f32; 64], even: usize, k: usize, s0: f32, s1: f32) -> Winner
     let best = found(m[even] + a + b);
     let candidate = m[even + 1] - a - b;
     if best < candidate {
-        return Winner {
+        Winner {
             metric: candidate,
             odd: 1,
-        };
-    }
-    Winner {
-        metric: best,
-        odd: 0,
+        }
+    } else {
+        Winner {
+            metric: best,
+            odd: 0,
+        }
     }
 }
 
@@ -148,17 +140,14 @@ fn winner_of(m: &[f32; 64], even: usize, k: usize, s0: f32, s1: f32) -> Winner
 fn vote(c: u8, v: f32) -> f32
     ensures { result ≡ voted neg c v }
 {
-    if c == 0 {
-        return v;
-    }
-    -v
+    if c == 0 { v } else { -v }
 }
 
 // A state's best after its first candidate: minus infinity where the candidate is no greater, as a NaN is not.
 fn found(c: f32) -> f32
     ensures { result ≡ pick (lt (inf true) c) c (inf true) }
 {
-    let lost = minus_infinity();
+    let lost = f32::NEG_INFINITY;
     if lost < c { c } else { lost }
 }
 
@@ -167,7 +156,7 @@ fn put(d: u64, bit: u8, k: usize) -> u64
     requires { (k < 64) × (bit < 2) × (d < 2 ^ k) }
     ensures { result ≡ d + bit * 2 ^ k }
 {
-    d + ((bit as u64) << k)
+    d + (u64::from(bit) << k)
 }
 
 fn bit_of(d: u64, k: usize) -> usize
@@ -183,33 +172,27 @@ fn backward(decisions: &[u64], end: usize, bits: &mut [u8])
     ensures { bits.new ≡ traced_path decisions.now end }
 {
     let mut state = end;
-    let mut t = decisions.len();
-    while 0 < t {
-        t -= 1;
+    for t in (0..decisions.len()).rev() {
         bits[t] = (state / 32) as u8;
         state = (2 * state + bit_of(decisions[t], state)) % 64;
     }
 }
 
-// The bytes of bits, most significant first.
-fn pack(bits: &[u8], bytes: &mut [u8])
-    requires { (8 * length bytes.old ≤ length bits.now) × Bits bits.now }
-    ensures { bytes.new ≡ bytes_of (length bytes.old) bits.now }
+// The bytes of a record's bits, most significant first.
+fn pack(bits: &[u8; STEPS]) -> [u8; RECORD]
+    requires { Bits bits.now }
+    ensures { result ≡ bytes_of record_size bits.now }
 {
-    let mut i = 0usize;
-    while i < bytes.len() {
-        bytes[i] = byte_of(bits, i);
-        i += 1;
-    }
+    std::array::from_fn(|i: usize| byte_of(bits, i))
 }
 
 fn byte_of(bits: &[u8], i: usize) -> u8
     requires { (8 * i + 8 ≤ length bits.now) × Bits bits.now }
     ensures { result ≡ byte_at bits.now i }
 {
-    let mut v = 0u8;
-    for k in 0..8usize {
-        v = v * 2 + bits[8 * i + k];
+    let mut v = 0;
+    for bit in &bits[8 * i..8 * i + 8] {
+        v = v * 2 + *bit;
     }
     v
 }

@@ -3,7 +3,6 @@ use mathlib.Core.Path.{ap, ◌∙◌}
 use Rattle.encoder.specs.Ccsds131.{record_size}
 use Rattle.decoder.specs.Decoder.{floats, bytes_of}
 use Rattle.decoder.specs.Trace.{decoded-by, decoded-bits}
-use borrow.Author.Rules.{rules}
 use Rattle.decoder.proofs.decode.Goals as goal
 
 pub pack-requires : goal.pack-requires
@@ -11,7 +10,7 @@ pack-requires c =
     let soft = c.args.soft.now in
     let e = decoded-by floats soft _ _ _ c.forward-end.ensures.0
     c.forward-end.ensures.2 c.backward.ensures in
-    (search rules, rw e (decoded-bits floats soft))
+    rw e (decoded-bits floats soft)
 
 pub returns : goal.returns
 returns c =

@@ -19,8 +19,8 @@ returns-then-best-candidate c =
     c.found-best.ensures
     c.if-best-candidate.true
 
-pub returns : goal.returns
-returns c =
+pub returns-else-best-candidate : goal.returns-else-best-candidate
+returns-else-best-candidate c =
     let s = c in
     let a = c.vote-a in
     let b = c.vote-b in
