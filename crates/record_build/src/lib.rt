@@ -40,9 +40,9 @@ fn lay(text: &[u8], lock: Option<Lock>) -> [u8; SIZE]
 {
     let mut bytes = [0u8; SIZE];
     let start = head(lock);
-    seq::copy_bytes(&start, &mut bytes, 0);
+    seq::copy(&start, &mut bytes, 0);
     bytes[LENGTH] = text.len() as u8;
-    seq::copy_bytes(text, &mut bytes, TEXT);
+    seq::copy(text, &mut bytes, TEXT);
     bytes
 }
 
