@@ -1,7 +1,9 @@
 -- Votes that are all good are decoded, and what is read then is read in the record decoded. A record refuses nothing that
 -- votes are refused for.
-use Rattle.std.specs.Prelude.{◌≡◌, refl, Bool, true, false, not, cond, ◌&&◌, ◌||◌, List, [], ◌∷◌, ℕ, zero, suc, ◌<◌, eqb, ℤ, pos, nat_abs, length, get_or, Float}
+use Rattle.std.specs.Prelude.{◌≡◌, refl, Bool, true, false, not, cond, ◌&&◌, ◌||◌, List, ℕ, zero, suc, ◌<◌, eqb, ℤ, pos, nat_abs, length, get_or, Float, Option, Some, None, is_some, is_none, Result, Ok, Err}
 use Rattle.std.proofs.Common.{sym, ap, ◌∙◌, arith, lit<, eq-eqb, le-ltb}
+use Rattle.std.specs.List.{position_or_len}
+use Rattle.std.proofs.lemmas.List.Sums.{position_or_len_is}
 use Rattle.std.specs.Float.{nan}
 use Rattle.float.specs.Calls.{in_unit}
 use Rattle.float_laws.specs.Exact.{abs-signed}
@@ -9,27 +11,15 @@ use Rattle.float_laws.specs.Values.{Is}
 use Rattle.float_laws.specs.Bounds.{value-within}
 use Rattle.float_laws.specs.Unit.{within-unit}
 use Rattle.refusal.specs.declared.Refusal.{Refusal}
-use Rattle.refusal.specs.declared.Refusal.TheVariants.{
-  BadLength,
-  BadVote,
-  NoWatermark,
-  UnsupportedVersion,
-  NotEncrypted,
-  PasswordRequired,
-  Damaged,
-  WrongPasswordOrDamaged,
-}
-use Rattle.refusal.specs.declared.Answer.TheVariants.{Done, Refused}
+use Rattle.refusal.specs.declared.Refusal.TheVariants.{BadLength, BadVote, Damaged, WrongPasswordOrDamaged}
 use Rattle.record.specs.declared.Key.{Key}
-use Rattle.record.specs.Record.{short, salt_at, outer_at, size, Outcome, refused, gives, intact, covered, sound, text_in, inside_of, parsed_of}
-use Rattle.seq.specs.Bytes.{number_at}
-use Rattle.record.specs.Answers.{read_as}
+use Rattle.record.specs.Record.{short, outer_at, size, intact, covered, sound, text_in, inside_of, opened_of, parsed_of}
 use Rattle.encoder.specs.Ccsds131.{record_size}
 use Rattle.picture.specs.Sizes.{block_count}
 use Rattle.correction.specs.Demand3.{decoded_from, bit_in, Fate, kept, zeroed, reversed, voted_f, Laid, WholeVotes}
 use Rattle.correction.specs.Carried.{votes-length}
 use Rattle.correction.specs.Gathered.{votes-at}
-use Rattle.extract.specs.Extract.{good_votes, decoded_outcome, record_outcome, decoded_as, parsed_from, votes_outcome}
+use Rattle.extract.specs.Extract.{text_of, first_bad, unless_bad, record_reading, parsed_from, votes_reading}
 
 -- the record's size is the decoder's
 pub record-size : size short ≡ record_size
@@ -37,20 +27,20 @@ record-size = refl
 
 -- ---- votes that are all good
 
-pub all-good : (votes : List Float) → ((b : ℕ) → b < length votes → in_unit (get_or votes b nan) ≡ true) → good_votes votes ≡ length votes
-unfolding good_votes
-all-good [] good = refl
-all-good (v ∷ vs) good = rw (good zero (omega arith), all-good vs (λ b h. good (suc b) (omega arith)))
+pub all-good : (votes : List Float) → ((b : ℕ) → b < length votes → in_unit (get_or votes b nan) ≡ true) → first_bad votes ≡ None
+all-good votes good =
+    let bad : Float → Bool = λ v. not (in_unit v) in
+    let all : position_or_len bad votes ≡ length votes =
+    position_or_len_is bad votes (length votes) nan (omega arith) (λ b h. rw (good b h) refl) (λ h. absurd (omega arith)) in
+    rw (all, le-ltb (length votes) (length votes) (omega arith)) refl
 
-pub decodes-on : (votes : List Float) → length votes ≡ block_count → good_votes votes ≡ length votes → record_outcome votes ≡ gives (decoded_from votes)
-unfolding record_outcome
-decodes-on votes many good =
-    rw (eq-eqb (length votes) block_count many, le-ltb (good_votes votes) block_count (omega (arith, good, many)))
+pub decodes-on : (votes : List Float) → length votes ≡ block_count → first_bad votes ≡ None → record_reading votes ≡ Ok (decoded_from votes)
+unfolding record_reading
+decodes-on votes many good = rw (eq-eqb (length votes) block_count many) (ap (λ (b : Option ℕ). unless_bad b (decoded_from votes)) good)
 
-pub reads_on : (votes : List Float) (key : Key) → length votes ≡ block_count → good_votes votes ≡ length votes
-    → votes_outcome votes key ≡ decoded_outcome votes key
-unfolding votes_outcome
-reads_on votes key many good = ap (λ (o : Outcome). parsed_from o key) (decodes-on votes many good)
+pub reads_on : (votes : List Float) (key : Option Key) → length votes ≡ block_count → first_bad votes ≡ None → votes_reading votes key ≡ text_of votes key
+unfolding votes_reading
+reads_on votes key many good = ap (λ (o : Result (List ℕ) Refusal). parsed_from o key) (decodes-on votes many good)
 
 -- ---- votes of a record laid over the blocks, and votes that are whole multiples of 1/1024
 
@@ -63,11 +53,11 @@ voted-good c (zeroed false) = refl
 voted-good zero reversed = refl
 voted-good (suc c) reversed = refl
 
-pub laid-good : (xs : List ℕ) (fates : List Fate) (votes : List Float) → length votes ≡ block_count → Laid xs fates votes → good_votes votes ≡ length votes
+pub laid-good : (xs : List ℕ) (fates : List Fate) (votes : List Float) → length votes ≡ block_count → Laid xs fates votes → first_bad votes ≡ None
 laid-good xs fates votes many laid =
     all-good votes (λ b h. ap in_unit (laid.vote b (omega arith)) ∙ voted-good (bit_in xs b) (get_or fates b kept))
 
-pub whole-good : (votes : List Float) (zs : List ℤ) → WholeVotes votes zs → good_votes votes ≡ length votes
+pub whole-good : (votes : List Float) (zs : List ℤ) → WholeVotes votes zs → first_bad votes ≡ None
 whole-good votes zs w = all-good votes good
   where
     good : (b : ℕ) → b < length votes → in_unit (get_or votes b nan) ≡ true
@@ -79,46 +69,29 @@ whole-good votes zs w = all-good votes good
 
 -- ---- what a record is refused for is neither 6 nor 15
 
-pub record Neither (o : Outcome) : Type 0 where
-  pub six : (n : ℕ) → (read_as o).answer ≡ Refused (BadLength n) → ⊥
-  pub fifteen : (n : ℕ) → (read_as o).answer ≡ Refused (BadVote n) → ⊥
+pub record Neither (o : Result (List ℕ) Refusal) : Type 0 where
+  pub six : (n : ℕ) → o ≡ Err (BadLength n) → ⊥
+  pub fifteen : (n : ℕ) → o ≡ Err (BadVote n) → ⊥
 
--- by the first refusal that is another
-other : (r : Refusal) → ((n : ℕ) → r ≡ BadLength n → ⊥) → ((n : ℕ) → r ≡ BadVote n → ⊥) → Neither (refused r)
-other r a b = record { six = λ n e. a n cc; fifteen = λ n e. b n cc }
-
-either : (t : Bool) (a b : Outcome) → Neither a → Neither b → Neither (cond t a b)
+either : (t : Bool) (a b : Result (List ℕ) Refusal) → Neither a → Neither b → Neither (cond t a b)
 either true a b h g = h
 either false a b h g = g
 
-clash : {A : Type 0} → ◌≡◌ {A = ℕ} 0 1 → A
-clash e = absurd (omega arith)
-
-done : (bs : List ℕ) → Neither (gives bs)
-done bs = record { six = λ n e. clash (cc); fifteen = λ n e. clash (cc) }
-
-inside-neither : (wrong : Refusal) (bs : List ℕ) → Neither (refused wrong) → Neither (inside_of short wrong bs)
+inside-neither : (wrong : Refusal) (bs : List ℕ) → Neither (Err wrong) → Neither (inside_of short wrong bs)
 unfolding inside_of
-inside-neither wrong bs h = either (not (sound short bs)) (refused wrong) (gives (text_in bs)) h (done (text_in bs))
+inside-neither wrong bs h = either (not (sound short bs)) (Err wrong) (Ok (text_in bs)) h (record { six = λ n e. cc; fifteen = λ n e. cc })
 
-pub parsed-neither : (bs : List ℕ) (key : Key) → Neither (parsed_of short bs key)
+opened-neither : (bs : List ℕ) (key : Option Key) → Neither (opened_of short bs key)
+unfolding opened_of
+opened-neither bs (Some key) = inside-neither WrongPasswordOrDamaged (covered short key.bytes bs) (record { six = λ n e. cc; fifteen = λ n e. cc })
+opened-neither bs None = inside-neither Damaged bs (record { six = λ n e. cc; fifteen = λ n e. cc })
+
+pub parsed-neither : (bs : List ℕ) (key : Option Key) → Neither (parsed_of short bs key)
 unfolding parsed_of
 parsed-neither bs key =
     let mode = get_or bs 0 0 in
-    either (not (intact (outer_at short) bs)) _ _ (other NoWatermark (λ n e. clash (cc)) (λ n e. clash (cc)))
-    (either (not (eqb mode short.plain || eqb mode short.keyed)) _ _ (other (UnsupportedVersion mode) (λ n e. clash (cc)) (λ n e. clash (cc)))
-    (either (eqb mode short.plain && key.given) _ _ (other NotEncrypted (λ n e. clash (cc)) (λ n e. clash (cc)))
-    (either (eqb mode short.keyed && not key.given) _ _ (other (PasswordRequired (number_at salt_at bs)) (λ n e. clash (cc)) (λ n e. clash (cc)))
-    (either key.given _ _
-    (inside-neither WrongPasswordOrDamaged (covered short key.bytes bs) (other WrongPasswordOrDamaged (λ n e. clash (cc)) (λ n e. clash (cc))))
-    (inside-neither Damaged bs (other Damaged (λ n e. clash (cc)) (λ n e. clash (cc))))))))
-
--- ---- the answer with its record
-
-pub answered-refused : (o : Outcome) (key : Key) (r : Refusal) → (decoded_as o).answer ≡ Refused r → parsed_from o key ≡ refused r
-answered-refused (refused s) key r e = cc
-answered-refused (gives bs) key r e = clash (cc)
-
-pub answered-done : (o : Outcome) (key : Key) → (decoded_as o).answer ≡ Done → parsed_from o key ≡ parsed_of short (decoded_as o).bytes key
-answered-done (refused s) key e = clash (cc)
-answered-done (gives bs) key e = refl
+    either (not (intact (outer_at short) bs)) _ _ (record { six = λ n e. cc; fifteen = λ n e. cc })
+    (either (not (eqb mode short.plain || eqb mode short.keyed)) _ _ (record { six = λ n e. cc; fifteen = λ n e. cc })
+    (either (eqb mode short.plain && is_some key) _ _ (record { six = λ n e. cc; fifteen = λ n e. cc })
+    (either (eqb mode short.keyed && is_none key) _ _ (record { six = λ n e. cc; fifteen = λ n e. cc })
+    (opened-neither bs key))))

@@ -1,6 +1,6 @@
 -- What the writer makes is a record: 46 bytes, each below 256. A text that is not refused has bytes below 256, by the check on
 -- writing.
-use Rattle.std.specs.Prelude.{◌≡◌, refl, leb, ltb, get_or, take, drop}
+use Rattle.std.specs.Prelude.{◌≡◌, refl, leb, ltb, get_or, take, drop, Option, Some, None, IfSome, Ok, Err}
 use Rattle.std.proofs.Math.Path.{ap}
 use Rattle.std.proofs.Common.{◌∙◌, subst, mod-lt, arith, lit<, leb-true, ltb-true}
 use mathlib.Core.Bool.{Bool, true, false, not, cond, ◌&&◌}
@@ -18,7 +18,7 @@ use Rattle.utf8.specs.Counted.{counted_char, counted}
 use Rattle.utf8.specs.Texts.{counted_is}
 use Rattle.refusal.specs.declared.Refusal.TheVariants.{TextTooLong, TextNotUtf8}
 use Rattle.record.specs.declared.Lock.{Lock}
-use Rattle.record.specs.Record.{short, inner_at, outer_at, length_at, refused, gives, covered, head_of, laid_out, locked, record_of, built_of, with_crc}
+use Rattle.record.specs.Record.{short, inner_at, outer_at, length_at, covered, head_of, laid_out, locked, record_of, built_of, with_crc}
 use Rattle.seq.specs.Bytes.{big_endian, Bytes}
 use Rattle.record.specs.Laws.{length-summed, length-laid, length-locked}
 use Rattle.correction.specs.Demand3.{IsRecord}
@@ -108,14 +108,14 @@ summed-bytes : (bs : List ℕ) → Bytes bs → Bytes (with_crc bs)
 unfolding with_crc
 summed-bytes bs h = bytes-append bs (big_endian (crc_of bs)) h (word_bytes (crc_of bs))
 
-module _ (lock : Lock) (four : length lock.salt ≡ 4) (salt : Bytes lock.salt) where
+module _ (lock : Option Lock) (four : IfSome lock (λ l. length l.salt ≡ 4)) (salt : IfSome lock (λ l. Bytes l.salt)) where
   head_bytes : Bytes (head_of short lock)
   unfolding head_of
-  head_bytes = go lock.given
+  head_bytes = go lock salt
     where
-      go : (t : Bool) → Bytes (cond t (short.keyed ∷ lock.salt) (short.plain ∷ replicate 4 0))
-      go true = bytes_one short.keyed lock.salt (lit< tt) salt
-      go false = bytes_one short.plain (replicate 4 0) (lit< tt) (bytes-zeros 4)
+      go : (l : Option Lock) → IfSome l (λ k. Bytes k.salt) → Bytes (head_of short l)
+      go (Some l) h = bytes_one short.keyed l.salt (lit< tt) h
+      go None h = bytes_one short.plain (replicate 4 0) (lit< tt) (bytes-zeros 4)
 
   laid-bytes : (text : List ℕ) → length text ≤ short.room → Bytes text → Bytes (laid_out short text lock)
   unfolding laid_out
@@ -126,18 +126,18 @@ module _ (lock : Lock) (four : length lock.salt ≡ 4) (salt : Bytes lock.salt) 
 
   locked-bytes : (bs : List ℕ) → Bytes bs → Bytes (locked short lock bs)
   unfolding locked covered on_part
-  locked-bytes bs h = go lock.given
+  locked-bytes bs h = go lock
     where
       n : ℕ
       n = outer_at short - length_at
 
-      go : (t : Bool) → Bytes (cond t (covered short lock.key bs) bs)
-      go true =
+      go : (l : Option Lock) → Bytes (locked short l bs)
+      go (Some l) =
           bytes-append (take length_at bs) _ (bytes_take length_at bs h)
-          (bytes-append (encrypted lock.key (replicate 12 0) 0 (take n (drop length_at bs))) (drop n (drop length_at bs))
-          (cipher-bytes lock.key (replicate 12 0) 0 (take n (drop length_at bs)) (bytes_take n (drop length_at bs) (bytes_drop length_at bs h)))
+          (bytes-append (encrypted l.key (replicate 12 0) 0 (take n (drop length_at bs))) (drop n (drop length_at bs))
+          (cipher-bytes l.key (replicate 12 0) 0 (take n (drop length_at bs)) (bytes_take n (drop length_at bs) (bytes_drop length_at bs h)))
           (bytes_drop n (drop length_at bs) (bytes_drop length_at bs h)))
-      go false = h
+      go None = h
 
   pub is-record : (text : List ℕ) → length text ≤ short.room → counted text ≡ true → IsRecord (record_of short text lock)
   unfolding record_of
@@ -151,13 +151,13 @@ module _ (lock : Lock) (four : length lock.salt ≡ 4) (salt : Bytes lock.salt) 
       }
 
 -- a text that is not refused fits, passes the check, and has its record
-pub built-is : (text : List ℕ) (lock : Lock) (bs : List ℕ) → built_of short text lock ≡ gives bs
+pub built-is : (text : List ℕ) (lock : Option Lock) (bs : List ℕ) → built_of short text lock ≡ Ok bs
     → (length text ≤ short.room) × (counted text ≡ true) × (record_of short text lock ≡ bs)
 unfolding built_of
 built-is text lock bs = go (leb (length text) short.room) (counted text) refl refl
   where
     go : (a b : Bool) → leb (length text) short.room ≡ a → counted text ≡ b
-        → cond (not a) (refused (TextTooLong (length text))) (cond (not b) (refused TextNotUtf8) (gives (record_of short text lock))) ≡ gives bs
+        → cond (not a) (Err (TextTooLong (length text))) (cond (not b) (Err TextNotUtf8) (Ok (record_of short text lock))) ≡ Ok bs
         → (length text ≤ short.room) × (counted text ≡ true) × (record_of short text lock ≡ bs)
     go true true l c e = (leb-true _ _ l, c, cc)
     go true false l c e = let z : ◌≡◌ {A = ℕ} 0 1 = cc in absurd (omega arith)

@@ -4,24 +4,17 @@
 #![tactic(auto)]
 
 ghost use Rattle.std.specs.Prelude.{◌≡◌, length};
-ghost use Rattle.record.specs.Record.{Outcome};
 ghost use Rattle.picture.specs.Sizes.{block_count};
 ghost use Rattle.correction.specs.Demand3.{decoded_from};
-ghost use Rattle.extract.specs.Extract.{text_of, good_votes, decoded_as, record_reading, votes_reading};
+ghost use Rattle.extract.specs.Extract.{first_bad, text_of, record_reading, votes_reading};
 
 use encoder::RECORD;
 use picture::BLOCKS;
-use record::{Key, Reading};
-use refusal::{Answer, Refusal};
-
-// A record; zeros where the votes are refused.
-#[derive(Clone, Copy)]
-pub struct Decoded {
-    pub bytes: [u8; RECORD],
-    pub answer: Answer,
-}
+use record::{Key, Text};
+use refusal::Refusal;
 
 // The record that the blocks' votes decode to, whatever the votes.
+#[tactic(auto, unfolding(correction::specs::Demand3::decoded_from))]
 fn decode(votes: &[f32; BLOCKS]) -> [u8; RECORD]
     ensures { result ≡ decoded_from votes.now }
 {
@@ -30,23 +23,17 @@ fn decode(votes: &[f32; BLOCKS]) -> [u8; RECORD]
 }
 
 // The text of the record that the blocks' votes decode to, whatever the votes. Refused: what `parse_record` refuses.
-pub fn text_of(votes: &[f32; BLOCKS], key: Key) -> Reading
+pub fn text_of(votes: &[f32; BLOCKS], key: Option<Key>) -> Result<Text, Refusal>
     ensures { result ≡ text_of votes.now key }
 {
-    let bytes = decode(votes);
-    record_parse::parse_record(&bytes, key)
+    record_parse::parse_record(&decode(votes), key)
 }
 
-// The place of the first vote that is not a number from -1 to 1, or the number of votes.
-fn first_bad(votes: &[f32]) -> usize
-    ensures { result ≡ good_votes votes.now }
+// The place of the first vote that is not a number from -1 to 1.
+fn first_bad(votes: &[f32]) -> Option<usize>
+    ensures { result ≡ first_bad votes.now }
 {
-    for i in 0..votes.len() {
-        if !float::in_unit(votes[i]) {
-            return i;
-        }
-    }
-    votes.len()
+    votes.iter().position(|v| !float::in_unit(*v))
 }
 
 // The votes, where there are as many as blocks, as the array that they are.
@@ -59,46 +46,27 @@ fn every_block(votes: &[f32]) -> [f32; BLOCKS]
     all
 }
 
-fn not_decoded(r: Refusal) -> Decoded
-    ensures { result ≡ decoded_as (Outcome.refused r) }
-{
-    Decoded {
-        bytes: [0u8; RECORD],
-        answer: Answer::Refused(r),
-    }
-}
-
 // The record that the blocks' votes decode to. Refused: another number of votes than blocks, and a vote that is not a
 // number from -1 to 1.
-#[tactic(auto, unfolding(crate::specs::Extract::record_reading, crate::specs::Extract::record_outcome))]
-pub fn record_of(votes: &[f32]) -> Decoded
+#[tactic(auto, unfolding(crate::specs::Extract::record_reading))]
+pub fn record_of(votes: &[f32]) -> Result<[u8; RECORD], Refusal>
     ensures { result ≡ record_reading votes.now }
 {
     if votes.len() != BLOCKS {
-        return not_decoded(Refusal::BadLength(votes.len()));
+        return Err(Refusal::BadLength(votes.len()));
     }
-    let bad = first_bad(votes);
-    if bad < BLOCKS {
-        return not_decoded(Refusal::BadVote(bad));
+    if let Some(bad) = first_bad(votes) {
+        return Err(Refusal::BadVote(bad));
     }
-    Decoded {
-        bytes: decode(&every_block(votes)),
-        answer: Answer::Done,
-    }
+    Ok(decode(&every_block(votes)))
 }
 
 // The text that the blocks' votes give, read with a key or with none. Refused: what `record_of` and then what
 // `parse_record` refuses.
-pub fn read_votes(votes: &[f32], key: Key) -> Reading
+#[tactic(auto, unfolding(crate::specs::Extract::votes_reading))]
+pub fn read_votes(votes: &[f32], key: Option<Key>) -> Result<Text, Refusal>
     ensures { result ≡ votes_reading votes.now key }
 {
-    let found = record_of(votes);
-    let answer = found.answer;
-    match answer {
-        Answer::Refused(r) => record::not_read(r),
-        Answer::Done => {
-            let bytes = found.bytes;
-            record_parse::parse_record(&bytes, key)
-        }
-    }
+    let bytes = record_of(votes)?;
+    record_parse::parse_record(&bytes, key)
 }
