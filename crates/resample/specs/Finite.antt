@@ -18,7 +18,8 @@ use Rattle.float_laws.specs.Shifted.{Room, room-power}
 use Rattle.resample_window.specs.declared.Tap.{Tap}
 use Rattle.resample_window.specs.Window.{taps}
 use Rattle.picture.specs.Sizes.{longest_side, row_of, plane_size}
-use Rattle.resample_window_laws.specs.Reach.{reach, taps-few, taps-from, taps-room-down}
+use Rattle.resample_window.specs.Taps.{taps-from}
+use Rattle.resample_window_laws.specs.Reach.{reach, taps-few, taps-room-down}
 use Rattle.resample_window_laws.specs.Weights.{weights-within}
 use Rattle.resample.specs.Tables.{no_tap}
 use Rattle.resample.specs.Resampled.{tap_total, across, resampled}

@@ -12,7 +12,8 @@ use Rattle.resample_window.specs.declared.Tap.{Tap}
 use Rattle.resample_window.specs.Window.{taps, start, tap_sources, tap_weights, all_taps, onto}
 use Rattle.picture.specs.Sizes.{longest_side}
 use Rattle.resample_window.specs.Taps.{length-onto, start_none, start-more, start-rises}
-use Rattle.resample_window_laws.specs.Reach.{reach, taps-from, taps-few, taps-room-down, taps-room-up}
+use Rattle.resample_window.specs.Taps.{taps-from}
+use Rattle.resample_window_laws.specs.Reach.{reach, taps-few, taps-room-down, taps-room-up}
 use Rattle.resample.specs.Resampled.{tap_total, across}
 use Rattle.resample.specs.Tables.{Tables, no_tap}
 

@@ -8,8 +8,19 @@ ghost use Rattle.resample.specs.Resampled.{across};
 use resample_window::taps;
 use std::marker::Model;
 
-// Of `dst` output samples from `src` values, in lent memory: one list of source numbers and one of weights, and not one
-// of pairs, whose padding would take a third more.
+// The most taps that an axis has: of 256 output samples from 8,192 values, or of 8,192 from 256.
+pub const MOST: usize = 16384;
+
+// Room for the taps of an axis of fewer than N output samples.
+#[derive(Drop)]
+pub struct TapRoom<const N: usize> {
+    pub offsets: [u16; N],
+    pub index: [u16; MOST],
+    pub weight: [f32; MOST],
+}
+
+// Of `dst` output samples from `src` values, in lent room: one list of source numbers and one of weights, and not one of
+// pairs, whose padding would take a third more.
 #[derive(Drop)]
 pub struct Taps<'a> {
     src: usize,
@@ -30,17 +41,15 @@ impl<'a> Model for Taps<'a> {
 }
 
 impl<'a> Taps<'a> {
-    pub fn new(
-        src: usize,
-        dst: usize,
-        offsets: &'a mut [u16],
-        index: &'a mut [u16],
-        weight: &'a mut [f32],
-    ) -> Taps<'a>
-        requires { (0 < src) × (src ≤ 8192) × (dst ≤ 8192) × (dst < length offsets.old) × (start src dst dst ≤ length index.old)
-            × (length weight.old ≡ length index.old) × (length index.old ≤ 16384) }
+    pub fn new<const N: usize>(src: usize, dst: usize, room: &'a mut TapRoom<N>) -> Taps<'a>
+        requires { (0 < src) × (src ≤ 8192) × (dst ≤ 8192) × (dst < N) × (start src dst dst ≤ 16384) }
         ensures { result ≡ record { src = src; dst = dst } }
     {
+        let TapRoom {
+            offsets,
+            index,
+            weight,
+        } = room;
         taps(src, dst, offsets, index, weight);
         Taps {
             src,

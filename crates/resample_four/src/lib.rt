@@ -28,15 +28,15 @@ fn put_four(s: &mut [f32], q: usize, step: usize, t: f32, u: f32, v: f32, w: f32
 }
 
 // A picture whose rows are brought to 256 values: its pixels, the products of its luma, and the taps of its rows.
-#[derive(Clone, Copy)]
-pub struct Narrower<'a> {
-    pub pixels: Pixels<'a>,
-    pub shares: &'a Shares,
-    pub taps: &'a Taps<'a>,
-    ghost axis: { taps.now ≡ record { src = pixels.picture.width; dst = 256 } },
+#[derive(Drop)]
+pub struct Narrower<'p, 't> {
+    pub pixels: Pixels<'p>,
+    pub shares: Shares,
+    pub taps: Taps<'t>,
+    ghost axis: { taps ≡ record { src = pixels.picture.width; dst = 256 } },
 }
 
-impl Narrower<'_> {
+impl Narrower<'_, '_> {
     // The luma of the rows 4 g to 4 g + 3, the last row in place of those that the picture has not.
     fn luma_four(&self, g: usize, line: &mut [f32])
         requires { (4 * g < self.now.pixels.picture.height) × (4 * self.now.pixels.picture.width ≤ length line.old) }

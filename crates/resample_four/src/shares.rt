@@ -6,6 +6,7 @@ ghost use Rattle.resample.specs.Samples.{luma_from};
 ghost use Rattle.resample_four.specs.Four.{share_at};
 
 // What each byte adds to the luma as a red sample, then as a green one, then as a blue one.
+#[derive(Drop)]
 pub struct Shares {
     products: [f32; 768],
     ghost made: { products ≡ tab share_at 768 },

@@ -8,7 +8,8 @@ use Rattle.std.proofs.Math.Seq.{paste, paste-suc, take_all, take_at, drop-append
 use Rattle.seq.specs.Lists.{lines}
 use Rattle.resample_window.specs.declared.Window.{Window}
 use Rattle.resample_window.specs.declared.Tap.{Tap}
-use Rattle.resample_window.specs.Window.{window_of, taps_of, taps, Small, all_taps, start, onto}
+use Rattle.resample_window.specs.Window.{numbers, window_of, taps_of, taps, Small, all_taps, start, onto}
+use Rattle.resample_window.specs.Steps.{taps_to-from}
 use Rattle.resample_window.specs.Range.{first_small, last-small}
 
 pub window-small : (w : Window) (src dst i : ℕ) → w ≡ window_of src dst i → Small w
@@ -91,3 +92,9 @@ module _ {A : Type 0} (f : Tap → A) (src dst : ℕ) where
 pub taps-of : (w : Window) (src dst i : ℕ) → w ≡ window_of src dst i → taps_of w src ≡ taps src dst i
 unfolding taps
 taps-of w src dst i e = ap (λ (v : Window). taps_of v src) e
+
+-- ---- a tap reads inside the source
+
+pub taps-from : (src dst i : ℕ) (z : Tap) → 0 < src → (n : ℕ) → n < length (taps src dst i) → (get_or (taps src dst i) n z).from < src
+unfolding taps
+taps-from src dst i z h n l = taps_to-from (window_of src dst i) src z h (numbers (window_of src dst i).first (window_of src dst i).last) n l

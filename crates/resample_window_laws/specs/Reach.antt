@@ -26,7 +26,6 @@ use Rattle.float_laws.specs.AddError.{add_once}
 use Rattle.float_laws.specs.Bounds.{holds-whole, round-within, within-finite}
 use Rattle.resample_window.specs.declared.Window.{Window}
 use Rattle.resample_window.specs.declared.Tap.{Tap}
-use Rattle.resample_window.specs.Steps.{taps_to-from}
 use Rattle.resample_window.specs.Window.{tent_of, weight_of, numbers, center_of, support_of, unsummed, with_sum, empty, window_of, clamp_of, tap_of, taps_to, taps_of, taps}
 use Rattle.picture.specs.Sizes.{longest_side}
 use Rattle.resample_window.specs.Signed.{clamp-below}
@@ -380,9 +379,3 @@ taps-room-up dst h k =
     let p : 0 < dst = omega arith in
     let l : (256 + dst - 1) / dst < 2 = (div-lt_iff_lt-mul p).1 (omega arith) in
     le_trans (mul-le-mul k (let m : 2 * ((256 + dst - 1) / dst) ≤ 2 = omega arith in m)) (lit≤ tt)
-
--- ---- a tap reads inside the source
-
-pub taps-from : (src dst i : ℕ) (z : Tap) → 0 < src → (n : ℕ) → n < length (taps src dst i) → (get_or (taps src dst i) n z).from < src
-unfolding taps
-taps-from src dst i z h n l = taps_to-from (window_of src dst i) src z h (numbers (window_of src dst i).first (window_of src dst i).last) n l
