@@ -42,7 +42,7 @@ fn every_block(votes: &[f32]) -> [f32; BLOCKS]
     ensures { result ≡ votes.now }
 {
     let mut all = [0.0f32; BLOCKS];
-    seq::copy_floats(votes, &mut all, 0);
+    seq::copy(votes, &mut all, 0);
     all
 }
 

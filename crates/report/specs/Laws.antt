@@ -9,7 +9,7 @@ use Rattle.refusal.specs.declared.Refusal.TheVariants.{WrongPasswordOrDamaged}
 use Rattle.record.specs.declared.Key.{Key}
 use Rattle.record.specs.Record.{short, salt_at, length_at, text_at, outer_at, intact, covered, text_in, sound, inside_of, opened_of, parsed_of}
 use Rattle.seq.specs.Bytes.{number_at}
-use Rattle.record.specs.Laws.{sound-length}
+use Rattle.record.specs.Laws.{sound_length}
 use Rattle.picture.specs.Sizes.{block_count}
 use Rattle.extract.specs.Extract.{record_reading, parsed_from, votes_reading}
 use Rattle.report.specs.Input.{vote_from, bytes_reading}
@@ -94,7 +94,7 @@ unfolding inside_of text_in
 inside-short wrong bs = go (sound short bs) refl
   where
     go : (t : Bool) → sound short bs ≡ t → FitsLine (cond (not t) (Err wrong) (Ok (text_in bs)))
-    go true t = omega (arith, sound-length short bs t, length-take (get_or bs length_at 0) (drop text_at bs))
+    go true t = omega (arith, sound_length short bs t, length-take (get_or bs length_at 0) (drop text_at bs))
     go false t = tt
 
 opened-short : (bs : List ℕ) (key : Option Key) → FitsLine (opened_of short bs key)

@@ -10,8 +10,8 @@ ghost use Rattle.picture.specs.Sizes.{block_count};
 ghost use Rattle.report.specs.Input.{vote_from, bytes_reading};
 ghost use Rattle.report.specs.Line.{text_line, refused_line, line_of};
 
-use picture::BLOCKS;
 use line::Line;
+use picture::BLOCKS;
 use record::Text;
 use refusal::Refusal;
 
@@ -25,13 +25,11 @@ fn votes_in(bytes: &[u8]) -> [f32; BLOCKS]
     requires { length bytes.now ≡ 4096 }
     ensures { result ≡ tab (vote_from bytes.now) block_count }
 {
-    let mut votes = [0.0f32; BLOCKS];
-    for (k, vote) in votes.iter_mut().enumerate() {
+    std::array::from_fn(|k: usize| {
         let i = 4 * k;
         let word = seq::little_endian(bytes[i], bytes[i + 1], bytes[i + 2], bytes[i + 3]);
-        *vote = float::f32_from_bits(word);
-    }
-    votes
+        float::f32_from_bits(word)
+    })
 }
 
 // What the bytes say, each four of them a vote, the lowest byte first. Refused: another number of bytes than
@@ -74,6 +72,7 @@ fn refused_line(number: u64, given: u64) -> Line
 
 // The line that says what the bytes are read as: "text", its length and its bytes in lowercase hex, "-" if
 // there are none; or "refused", the refusal's number and the number given, in decimal.
+#[tactic(auto, unfolding(crate::specs::Line::line_of))]
 pub fn say(bytes: &[u8]) -> Line
     ensures { result ≡ line_of (bytes_reading bytes.now) }
 {

@@ -6,12 +6,8 @@ use Rattle.report.proofs.read_bytes.Goals as goal
 
 pub returns-then-bytes-ne-BYTES : goal.returns-then-bytes-ne-BYTES
 unfolding bytes_reading
-returns-then-bytes-ne-BYTES c =
-    let bytes = c.args.bytes.now in
-    rw (c.not_read.ensures, ne_eqb (length bytes) 4096 c.if-bytes-ne-BYTES.true)
+returns-then-bytes-ne-BYTES c = rw (ne_eqb (length c.args.bytes.now) 4096 c.if-bytes-ne-BYTES.true)
 
 pub returns : goal.returns
 unfolding bytes_reading
-returns c =
-    let bytes = c.args.bytes.now in
-    rw (c.read_votes.ensures, c.votes_in-all.ensures, eq-eqb (length bytes) 4096 c.if-bytes-ne-BYTES.false)
+returns c = rw (c.read_votes.ensures, c.votes_in.ensures, eq-eqb (length c.args.bytes.now) 4096 c.if-bytes-ne-BYTES.false)

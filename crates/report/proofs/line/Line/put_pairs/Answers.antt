@@ -1,5 +1,5 @@
 -- After i turns the digits of the first i bytes are put (`pairs-more`).
-use Rattle.std.proofs.Common.{rules, arith, append_assoc, length-append, add-one, ◌≡◌, ◌≤◌, ◌<◌, ◌+◌, ◌++◌, [], ℕ, List, length, take, get_or, refl, sym, ◌∙◌}
+use Rattle.std.proofs.Common.{rules, arith, append_assoc, length-append, add-one, ◌≤◌, ◌<◌, ◌+◌, ℕ, List, length, take, get_or}
 use lib.Seq.{take-suc, length-take-le}
 use Rattle.report.specs.Line.{pairs}
 use Rattle.report.specs.Laws.{pairs-more, length_pairs}
@@ -14,14 +14,16 @@ unfolding pairs
 loop-byte-init c = search rules
 
 pub put_digit-requires : goal.put_digit-requires
-put_digit-requires c =
-    (omega (arith, c.type_inv.bytes c.loop-byte.byte-index),
-    rw (c.loop-byte.invariant, length-append) (omega (arith, c.requires, fits c.args.bytes.now c.loop-byte.byte-index c.loop-byte-test.true)))
+put_digit-requires c = (
+  omega (arith, c.type_inv.bytes c.loop-byte.byte-index),
+  rw (c.loop-byte.invariant, length-append) (omega (arith, c.requires, fits c.args.bytes.now c.loop-byte.byte-index c.loop-byte-test.true)),
+)
 
 pub put_digit-requires-in-loop-byte : goal.put_digit-requires-in-loop-byte
-put_digit-requires-in-loop-byte c =
-    (omega arith,
-    rw (c.put_digit.ensures, c.loop-byte.invariant, length-append, length-append) (omega (arith, c.requires, fits c.args.bytes.now c.loop-byte.byte-index c.loop-byte-test.true)))
+put_digit-requires-in-loop-byte c = (
+  omega arith,
+  rw (c.put_digit.ensures, c.loop-byte.invariant, length-append, length-append) (omega (arith, c.requires, fits c.args.bytes.now c.loop-byte.byte-index c.loop-byte-test.true)),
+)
 
 pub loop-byte-preserved : goal.loop-byte-preserved
 loop-byte-preserved c =
