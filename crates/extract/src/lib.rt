@@ -3,8 +3,7 @@
 // The definition is specs/Extract.antt; what may be relied on beyond it is specs/Theorems.antt and specs/EndToEnd.antt.
 #![tactic(auto)]
 
-ghost use Rattle.std.specs.Prelude.{◌≡◌, length};
-ghost use Rattle.picture.specs.Sizes.{block_count};
+ghost use Rattle.std.specs.Prelude.{◌≡◌};
 ghost use Rattle.correction.specs.Demand3.{decoded_from};
 ghost use Rattle.extract.specs.Extract.{first_bad, text_of, record_reading, votes_reading};
 
@@ -36,29 +35,19 @@ fn first_bad(votes: &[f32]) -> Option<usize>
     votes.iter().position(|v| !float::in_unit(*v))
 }
 
-// The votes, where there are as many as blocks, as the array that they are.
-fn every_block(votes: &[f32]) -> [f32; BLOCKS]
-    requires { length votes.now ≡ block_count }
-    ensures { result ≡ votes.now }
-{
-    let mut all = [0.0f32; BLOCKS];
-    seq::copy(votes, &mut all, 0);
-    all
-}
-
 // The record that the blocks' votes decode to. Refused: another number of votes than blocks, and a vote that is not a
 // number from -1 to 1.
 #[tactic(auto, unfolding(crate::specs::Extract::record_reading))]
 pub fn record_of(votes: &[f32]) -> Result<[u8; RECORD], Refusal>
     ensures { result ≡ record_reading votes.now }
 {
-    if votes.len() != BLOCKS {
+    let Some(all) = votes.as_array::<BLOCKS>() else {
         return Err(Refusal::BadLength(votes.len()));
-    }
+    };
     if let Some(bad) = first_bad(votes) {
         return Err(Refusal::BadVote(bad));
     }
-    Ok(decode(&every_block(votes)))
+    Ok(decode(all))
 }
 
 // The text that the blocks' votes give, read with a key or with none. Refused: what `record_of` and then what
