@@ -13,6 +13,7 @@ ghost use Rattle.block.specs.Plane.{line_at, load_of, stored_of};
 ghost use Rattle.picture.specs.Sizes.{block_count, plane_size};
 
 use float::{floor_f32, min_f32, round_f32};
+use seq::copy_floats;
 
 // The places of the coefficients (1,1), (1,2), (2,1) and (2,2), which carry the bit.
 const COEFFICIENTS: [usize; 4] = [9, 10, 17, 18];
@@ -72,7 +73,8 @@ fn line_at(b: usize, r: usize) -> usize
     (b / 32 * 8 + r) * 256 + b % 32 * 8
 }
 
-// Block b of the plane, which stands first in what is lent.
+// Block b of the plane, which stands first in what is lent. The eight floats of a line are stored one by one: a `memcpy` for
+// each costs more.
 pub fn load_block(plane: &[f32], b: usize) -> [f32; 64]
     requires { (b < block_count) × (plane_size ≤ length plane.now) }
     ensures { result ≡ load_of plane.now b }
@@ -80,7 +82,7 @@ pub fn load_block(plane: &[f32], b: usize) -> [f32; 64]
     let mut values = [0.0f32; 64];
     for r in 0..8 {
         let at = line_at(b, r);
-        values[r * 8..r * 8 + 8].copy_from_slice(&plane[at..at + 8]);
+        copy_floats(&plane[at..at + 8], &mut values, r * 8);
     }
     values
 }
@@ -92,6 +94,6 @@ pub fn store_block(plane: &mut [f32], b: usize, values: &[f32; 64])
 {
     for r in 0..8 {
         let at = line_at(b, r);
-        plane[at..at + 8].copy_from_slice(&values[r * 8..r * 8 + 8]);
+        copy_floats(&values[r * 8..r * 8 + 8], plane, at);
     }
 }

@@ -76,8 +76,9 @@ pub extern "C" fn vk_encode(bytes: &[u8; RECORD], coded: &mut [u8; CODED])
 pub extern "C" fn vk_decode(soft: &[f32; CODED], bytes: &mut [u8; RECORD]) -> f32
     ensures { (bytes.new ≡ bytes_of record_size (decoded floats soft.now)) × (result ≡ strength floats soft.now) }
 {
-    let d = decoder::decode(soft);
-    let found = d.bytes;
+    let survivor = decoder::decode(soft);
+    // By a name of its own: a field that is an array is not stored straight.
+    let found = survivor.bytes;
     *bytes = found;
-    d.metric
+    survivor.metric
 }

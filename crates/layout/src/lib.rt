@@ -32,8 +32,8 @@ pub fn gather(votes: &[f32; BLOCKS]) -> [f32; CODED]
     let layout = Layout::new();
     let mut soft = [0.0f32; CODED];
     for j in 0..BLOCKS {
-        let k = j % CODED;
-        soft[k] = soft[k] + votes[layout.block(j)];
+        let b = layout.block(j);
+        soft[j % CODED] += votes[b];
     }
     soft
 }

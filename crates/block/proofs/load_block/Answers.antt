@@ -1,9 +1,7 @@
 -- After r turns the first r lines stand in the block.
-use Rattle.std.proofs.Common.{◌≡◌, refl, sym, ◌∙◌, ap, ℕ, ◌+◌, ◌-◌, ◌*◌, ◌≤◌, ◌<◌, List, length, take, drop, get_or, arith, rules, take_all}
+use Rattle.std.proofs.Common.{◌≡◌, refl, sym, ◌∙◌, ap, ap₂, ℕ, ◌+◌, ◌-◌, ◌*◌, ◌≤◌, ◌<◌, List, length, take, drop, get_or, arith, rules, take_all}
 use Rattle.std.proofs.Math.Nat.{add-sub_cancel_left}
 use Rattle.std.proofs.Math.Seq.{paste, length-paste}
-use Rattle.std.proofs.lemmas.Slice.{put_mid-paste}
-use borrow.Rule.Slice.PartMut.{put_mid}
 use Rattle.std.specs.Float.Ieee.{Float, nan}
 use Rattle.seq.specs.Tab.{length-tab}
 use Rattle.seq.specs.Lists.{lines}
@@ -14,13 +12,12 @@ use Rattle.block.specs.Stored.{line-fits}
 use Rattle.block.proofs.load_block.Invariants.{Begun}
 use Rattle.block.proofs.load_block.Goals as goal
 
-begun_more : (g : ℕ → ℕ → Float) (r : ℕ) (p line : List Float) → r < 8 → Begun g r p → line ≡ block_line g r
-    → Begun g (r + 1) (put_mid (r * 8) (r * 8 + 8 - r * 8) p line)
-begun_more g r p line h b e =
+begun_more : (g : ℕ → ℕ → Float) (r : ℕ) (p q line : List Float) → r < 8 → Begun g r p → line ≡ block_line g r → q ≡ paste p (r * 8) line (length line)
+    → Begun g (r + 1) q
+begun_more g r p q line h b e f =
     let l : length (block_line g r) ≡ 8 = length-tab (g r) 8 in
     let room : r * 8 + 8 ≤ length p = omega (arith, b.0) in
-    let s : put_mid (r * 8) (r * 8 + 8 - r * 8) p line ≡ paste p (r * 8) (block_line g r) 8 =
-    put_mid-paste (r * 8) _ p line (block_line g r) 8 e (sym (add-sub_cancel_left (r * 8) 8)) (sym l) in (
+    let s : q ≡ paste p (r * 8) (block_line g r) 8 = f ∙ ap₂ (λ (xs : List Float) (n : ℕ). paste p (r * 8) xs n) e (ap length e ∙ l) in (
       ap length s ∙ (length-paste p (r * 8) (block_line g r) 8 room (omega (arith, l)) ∙ b.0),
       ap (λ (xs : List Float). take ((r + 1) * 8) xs) s ∙ lines_more 8 (block_line g) r p room l b.1,
     )
@@ -45,7 +42,7 @@ loop-r-preserved c =
     let plane = c.args.plane.now in
     let room : at + 8 ≤ length plane = rw c.line_at-at.ensures (omega (arith, line-fits c.args.b l.r c.requires.0 c.loop-r-test.true)) in (
       search rules,
-      begun_more _ _ _ _ c.loop-r-test.true l.invariant.1 (c.copy_from_slice.ensures.after ∙ line plane c.args.b l.r at c.line_at-at.ensures room),
+      begun_more _ _ _ _ _ c.loop-r-test.true l.invariant.1 (line plane c.args.b l.r at c.line_at-at.ensures room) c.copy_floats.ensures,
     )
 
 pub returns : goal.returns

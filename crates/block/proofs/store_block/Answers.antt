@@ -1,8 +1,7 @@
 -- After r turns the first r lines stand in their places.
-use Rattle.std.proofs.Common.{◌≡◌, refl, sym, ◌∙◌, ap, ℕ, ◌+◌, ◌-◌, ◌*◌, ◌≤◌, List, length, take, drop, arith, rules}
+use Rattle.std.proofs.Common.{◌≡◌, refl, ◌∙◌, ap, ap₂, ℕ, ◌+◌, ◌-◌, ◌*◌, ◌≤◌, List, length, take, drop, arith, rules}
 use Rattle.std.proofs.Math.Nat.{add-sub_cancel_left}
-use Rattle.std.proofs.Math.Seq.{length-paste}
-use Rattle.std.proofs.lemmas.Slice.{put_mid-paste}
+use Rattle.std.proofs.Math.Seq.{paste, length-paste}
 use Rattle.std.specs.Float.Ieee.{Float, nan}
 use Rattle.seq.specs.Tab.{length-tab}
 use Rattle.seq.specs.Lines.{pasted-none, pasted-more, part-tab}
@@ -25,8 +24,8 @@ loop-r-preserved c =
     let x = c.args.values.now in
     let eight : length (block_line (cell x) l.r) ≡ 8 = length-tab _ 8 in
     let room : at + 8 ≤ length l.plane = rw c.line_at-at.ensures (omega (arith, line-fits c.args.b l.r c.requires.0 c.loop-r-test.true)) in
-    let e = put_mid-paste at _ l.plane _ (block_line (cell x) l.r) 8 (c.copy_from_slice.ensures.after ∙ line x l.r (omega arith))
-    (sym (add-sub_cancel_left at 8)) (sym eight) in (
+    let its_line = line x l.r (omega arith) in
+    let e = c.copy_floats.ensures ∙ ap₂ (λ (xs : List Float) (n : ℕ). paste l.plane at xs n) its_line (ap length its_line ∙ eight) in (
       search rules,
       ap length e ∙ (length-paste l.plane at (block_line (cell x) l.r) 8 room (omega (arith, eight)) ∙ l.invariant.1),
       e ∙ rw (c.line_at-at.ensures, l.invariant.2) (pasted-more _ _ _ _ _),

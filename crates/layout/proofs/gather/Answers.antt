@@ -16,7 +16,7 @@ pub loop-j-preserved : goal.loop-j-preserved
 loop-j-preserved c =
     let l = c.loop-j in (
       simp length-set l.invariant.0,
-      rw c.block.ensures.0 (gather-more coded_bits l.j block_count block_of c.args.votes.now l.soft c.loop-j-test.true l.invariant.1),
+      rw c.block-b.ensures.0 (gather-more coded_bits l.j block_count block_of c.args.votes.now l.soft c.loop-j-test.true l.invariant.1),
     )
 
 pub returns : goal.returns
