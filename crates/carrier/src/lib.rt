@@ -16,9 +16,9 @@ fn put_bits(samples: &mut [u8], p: Picture, bits: &[u8; BLOCKS], plane: &mut [f3
     ensures length { length plane.new ≡ plane_size }
     ensures marked { samples.new ≡ marked_samples p bits.now samples.old }
 {
-    resample_down::plane(samples, p.width, p.height, p.channels, plane);
+    resample_down::plane(samples, p, plane);
     plane::embed_bits(plane, bits);
-    resample_up::change_samples(plane, p.width, p.height, p.channels, samples);
+    resample_up::change_samples(plane, p, samples);
 }
 
 // The bits of a picture's blocks put into its samples, in a work area that has room for the plane and ends as zeros.
@@ -38,7 +38,7 @@ fn plane_votes(samples: &[u8], p: Picture, plane: &mut [f32]) -> [f32; BLOCKS]
     ensures length { length plane.new ≡ plane_size }
     ensures votes { result ≡ picture_votes p samples.now }
 {
-    resample_down::plane(samples, p.width, p.height, p.channels, plane);
+    resample_down::plane(samples, p, plane);
     plane::block_soft(plane)
 }
 

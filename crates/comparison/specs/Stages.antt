@@ -1,13 +1,11 @@
 -- A window as two lists, its numbers and its parts; a weight as whether there is one and its value; which rows of samples have
 -- a luma, which pictures have a plane, and which take a change of it. Definitions only.
-use Rattle.std.specs.Prelude.{Bool, true, false, cond, ◌&&◌, List, [], ◌∷◌, ℕ, ◌*◌, eqb, leb, ℤ, Float, length}
+use Rattle.std.specs.Prelude.{Bool, true, false, cond, ◌&&◌, List, [], ◌∷◌, ℕ, ◌*◌, eqb, leb, ℤ, Float, Option, Some, None, length}
 use Rattle.std.specs.Float.{binary32}
 use Rattle.std.specs.Float.Ieee.{of_bits}
 use Rattle.seq.specs.Lists.{tab}
 use Rattle.resample_window.specs.Window.{is_side}
 use Rattle.resample_window.specs.declared.Window.{Window}
-use Rattle.resample_window.specs.declared.Weight.{Weight}
-use Rattle.resample_window.specs.declared.Weight.TheVariants.{Of, Nothing}
 use Rattle.resample.specs.Samples.{luma_at, plane_of, changed_of}
 use Rattle.picture.specs.Sizes.{plane_size}
 
@@ -17,14 +15,14 @@ numbers_of w = w.first ∷ (w.last ∷ [])
 abbrev pub parts_of : Window → List Float
 parts_of w = w.center ∷ (w.support ∷ (w.sum ∷ []))
 
-abbrev pub has_weight : Weight → Bool
-has_weight (Of _) = true
-has_weight Nothing = false
+abbrev pub has_weight : Option Float → Bool
+has_weight (Some _) = true
+has_weight None = false
 
 -- 0 where there is none
-abbrev pub weight_value : Weight → Float
-weight_value (Of q) = q
-weight_value Nothing = of_bits binary32 0
+abbrev pub weight_value : Option Float → Float
+weight_value (Some q) = q
+weight_value None = of_bits binary32 0
 
 abbrev pub has_sides : ℕ → ℕ → ℕ → Bool
 has_sides width height channels = is_side width && (is_side height && (leb 3 channels && leb channels 4))

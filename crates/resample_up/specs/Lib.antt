@@ -1,4 +1,3 @@
-pub mod Widening
 pub mod Rows
 pub mod Written
 pub mod Changed

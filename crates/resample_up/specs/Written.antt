@@ -22,10 +22,10 @@ filled-kept {A} f n d z h e = sym (set-get_or (filled f n d) n z) ∙ (ap (λ (v
 
 -- ---- a row put through its taps
 
-pub widened : (n : ℕ) (change : List Float) (k : ℕ) (part out : List Float) → k * 256 + 256 ≤ length change → part ≡ row_of 256 change k
-    → out ≡ tab (across (length part) n (λ i. get_or part i nan)) n → out ≡ wide_row n change k
+pub widened : (n : ℕ) (change : List Float) (k : ℕ) (part out : List Float) → part ≡ row_of 256 change k
+    → out ≡ tab (across 256 n (λ i. get_or part i nan)) n → out ≡ wide_row n change k
 unfolding wide_row
-widened n change k part out h e o = rw (e, length-row 256 change k h) at o
+widened n change k part out e o = rw e at o
 
 -- ---- a row with the change of each pixel
 
