@@ -2,73 +2,88 @@
 // Every NaN is written as one pattern. Prints for each list how many were compared and how many differ.
 #![tactic(auto)]
 
-mod call;
-
-ghost use Rattle.std.specs.Prelude.{◌≤◌};
-ghost use Rattle.replay_lists.specs.Fields.{InText};
-
-use call::Call;
-use replay_lists::Field;
+use replay_lists::cases::Fields;
 use std::io;
+use std::num::{f32_to_bits_with_nan, f64_from_bits_with_nan, f64_to_bits_with_nan};
 use std::rt::Files;
 
-fn agrees(text: &[u8], which: Call, one: Field, other: Field, res: Field) -> bool
-    requires { InText text.now one × InText text.now other × InText text.now res }
+// The f32 of the bits, whose upper half does not count.
+fn narrow(bits: u64) -> f32 {
+    float::f32_from_bits((bits & 0xffff_ffff) as u32)
+}
+
+// The list in the file `name` for a call that takes one operand: the closure gives the bits of its result.
+fn one<F: Fn(u64) -> u64>(
+    rt: &(impl Files + Print + Eprint + AllocGlobal),
+    name: &str,
+    call: F,
+) -> io::Result<()>
+    requires { F.IsAlwaysCallable call }
 {
-    let x = replay_lists::hex_number(text, one);
-    let y = replay_lists::hex_number(text, other);
-    let z = replay_lists::hex_number(text, res);
-    x.good && y.good && z.good && which.agrees(x.value, y.value, z.value)
+    replay_lists::replay(rt, name, name, 2, |mut case: Fields<'_>| {
+        let x = case.number()?;
+        Some(call(x) == case.number()?)
+    })
 }
 
-// The other operand, which is the same again where the call takes one.
-fn other_operand(text: &[u8], which: Call, one: Field) -> Field
-    requires { InText text.now one }
-    ensures { InText text.now result × (one.end ≤ result.end) }
+// The same for a call that takes two.
+fn two<F: Fn(u64, u64) -> u64>(
+    rt: &(impl Files + Print + Eprint + AllocGlobal),
+    name: &str,
+    call: F,
+) -> io::Result<()>
+    requires { F.IsAlwaysCallable call }
 {
-    if which.takes_two() {
-        replay_lists::next(text, one.end)
-    } else {
-        one
-    }
+    replay_lists::replay(rt, name, name, 3, |mut case: Fields<'_>| {
+        let x = case.number()?;
+        let y = case.number()?;
+        Some(call(x, y) == case.number()?)
+    })
 }
 
-fn replay(rt: &impl Print, text: &[u8], name: &str, which: Call) -> io::Result<()> {
-    let mut compared: u64 = 0;
-    let mut different: u64 = 0;
-    let mut at = 0;
-    while at < text.len() {
-        let one = replay_lists::next(text, at);
-        let other = other_operand(text, which, one);
-        let result = replay_lists::next(text, other.end);
-        at = result.end;
-        if one.start < one.end {
-            compared += 1;
-            if !agrees(text, which, one, other, result) {
-                different += 1;
-            }
-        }
-    }
-    replay_lists::report(rt, name, compared, different)
-}
-
-// The list in the file `name`.
-fn list(rt: &(impl Files + Print + Eprint), name: &str, which: Call) -> io::Result<()> {
-    let mut text = replay_lists::room();
-    let count = replay_lists::load(rt, name, &mut text)?;
-    replay(rt, &text[..count], name, which)
+// The list for a call from f32 to f32.
+fn of_f32<F: Fn(f32) -> f32>(
+    rt: &(impl Files + Print + Eprint + AllocGlobal),
+    name: &str,
+    call: F,
+) -> io::Result<()>
+    requires { F.IsAlwaysCallable call }
+{
+    one(
+        rt,
+        name,
+        |x| u64::from(f32_to_bits_with_nan(call(narrow(x)))),
+    )
 }
 
 fn main(rt: HostRuntime) -> io::Result<()> {
-    list(&rt, "round_f32.txt", Call::RoundF32)?;
-    list(&rt, "floor_f32.txt", Call::FloorF32)?;
-    list(&rt, "round_to_u8.txt", Call::RoundToU8)?;
-    list(&rt, "in_unit.txt", Call::InUnit)?;
-    list(&rt, "f32_from_bits.txt", Call::F32FromBits)?;
-    list(&rt, "floor_f64_to_i64.txt", Call::FloorF64ToI64)?;
-    list(&rt, "ceil_f64_to_i64.txt", Call::CeilF64ToI64)?;
-    list(&rt, "abs_f64.txt", Call::AbsF64)?;
-    list(&rt, "narrow_f64.txt", Call::NarrowF64)?;
-    list(&rt, "min_f32.txt", Call::MinF32)?;
-    list(&rt, "max_f64.txt", Call::MaxF64)
+    of_f32(&rt, "round_f32.txt", float::round_f32)?;
+    of_f32(&rt, "floor_f32.txt", float::floor_f32)?;
+    one(
+        &rt,
+        "round_to_u8.txt",
+        |x| u64::from(float::round_to_u8(narrow(x))),
+    )?;
+    one(&rt, "in_unit.txt", |x| u64::from(float::in_unit(narrow(x))))?;
+    of_f32(&rt, "f32_from_bits.txt", |x| x)?;
+    one(&rt, "floor_f64_to_i64.txt", |x| {
+        float::floor_f64_to_i64(f64_from_bits_with_nan(x)).cast_unsigned()
+    })?;
+    one(&rt, "ceil_f64_to_i64.txt", |x| {
+        float::ceil_f64_to_i64(f64_from_bits_with_nan(x)).cast_unsigned()
+    })?;
+    one(
+        &rt,
+        "abs_f64.txt",
+        |x| f64_to_bits_with_nan(float::abs_f64(f64_from_bits_with_nan(x))),
+    )?;
+    one(&rt, "narrow_f64.txt", |x| {
+        u64::from(f32_to_bits_with_nan(float::narrow_f64(f64_from_bits_with_nan(x))))
+    })?;
+    two(&rt, "min_f32.txt", |x, y| {
+        u64::from(f32_to_bits_with_nan(float::min_f32(narrow(x), narrow(y))))
+    })?;
+    two(&rt, "max_f64.txt", |x, y| {
+        f64_to_bits_with_nan(float::max_f64(f64_from_bits_with_nan(x), f64_from_bits_with_nan(y)))
+    })
 }

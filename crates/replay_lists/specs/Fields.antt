@@ -1,10 +1,15 @@
--- What the contracts say of a field. Definitions only.
-use Rattle.std.specs.Prelude.{◌≡◌, ℕ, ◌≤◌, List, length, take}
-use Rattle.replay_lists.specs.declared.Field.{Field}
+-- What the contracts say of fields. Definitions only.
+use Rattle.std.specs.Prelude.{◌≡◌, ℕ, ◌≤◌, ◌<◌, ◌++◌, List, length, take, Option, MatchOption}
+use denote.Ref.{Bor}
 
--- the field stands in the text
-abbrev pub InText : List ℕ → Field → Type 0
-InText text f = (f.start ≤ f.end) × (f.end ≤ length text)
+-- `rest` is what is left of the text behind some part of it
+abbrev pub IsPartBehind : List ℕ → List ℕ → Type 0
+IsPartBehind text rest = (passed : List ℕ) × (text ≡ passed ++ rest)
+
+-- a field was found in the text, with a byte at least, and `rest` follows it; or none was left
+abbrev pub IsNextField : List ℕ → Option (Bor (List ℕ)) → List ℕ → Type 0
+IsNextField text found rest =
+    MatchOption found (length rest ≡ 0) (λ field. (0 < length field.now) × IsPartBehind text (field.now ++ rest))
 
 -- the bytes have a first part of n: that it is in bounds follows from its length, and the other way round, and spares a proof
 abbrev pub IsPrefixLen : ℕ → List ℕ → Type 0

@@ -1,213 +1,113 @@
 // Lists of stored cases, which the replay programs compare with: text in lines, where a line that begins with # says what the
 // list is and each other line is a case, of fields with a space between them. A field is a number or a string of bytes in
-// hexadecimal, or - for no bytes. A program loads its list whole, takes one field after the other, and reports what it counted.
+// hexadecimal, or - for no bytes. A program replays a list by a closure that says of one case whether it agrees.
 #![tactic(auto)]
 
+pub mod cases;
+mod hex;
 pub mod stored;
 
-ghost use Rattle.std.specs.Prelude.{◌+◌, ◌/◌, ◌≤◌, ◌<◌, min, ◌≡◌, length};
-ghost use Rattle.std.specs.Io.{ReadsAtMost};
-ghost use Rattle.replay_lists.specs.Fields.{InText, IsPrefixLen};
+ghost use Rattle.std.specs.Prelude.{◌+◌, ◌<◌, ◌≡◌, min, cond, IfOk, IsTrue, vec_len};
 
+use cases::{Cases, Fields};
 use std::io::Read;
 use std::rt::Files;
 use std::{fs, io};
 
-// The bytes of a text from `start` up to, not including, `end`. An empty one at the text's end says that none was left.
-#[derive(Clone, Copy)]
-pub struct Field {
-    pub start: usize,
-    pub end: usize,
-}
+// One byte less than this is the longest list that is taken.
+const ROOM: usize = 262144;
 
-// What a field gave as bytes: whether it is well formed, and how many bytes it has.
-#[derive(Clone, Copy)]
-pub struct Decoded {
-    pub good: bool,
-    pub count: usize,
-}
-
-// What a field gave as a number: whether it is one, and which.
-#[derive(Clone, Copy)]
-pub struct Number {
-    pub good: bool,
-    pub value: u64,
-}
-
-// Room for a list: one byte less than this is the longest that is loaded.
-pub fn room() -> [u8; 262144]
-    ensures { 262144 ≡ length result }
-{
-    [0; 262144]
-}
-
-// Reads the file into `text` and answers its length: 0, with a word on standard error, where it cannot be read or has no room.
+// The text of the list in the file: nothing, with a word on standard error, where it cannot be read or has no room.
 // An error is that of writing this word.
-pub fn load(rt: &(impl Files + Eprint), path: &str, text: &mut [u8]) -> io::Result<usize>
-    ensures { ReadsAtMost result text.new }
+pub fn load(rt: &(impl Files + Eprint + AllocGlobal), path: &str) -> io::Result<Vec<u8>>
+    ensures { IfOk result (λ text. vec_len text < 262144) }
 {
-    match read_file(rt, path, text) {
-        Ok(count) if count < text.len() => Ok(count),
+    let mut text = Vec::new(rt.alloc());
+    if read_into(rt, path, &mut text)? {
+        return Ok(text);
+    }
+    Ok(Vec::new(rt.alloc()))
+}
+
+// Reads the file behind what `text` holds, and answers whether it was read whole and has room. Where not, a word on standard
+// error says why, and `text` has what was read.
+pub fn read_into(
+    rt: &(impl Files + Eprint + AllocGlobal),
+    path: &str,
+    text: &mut Vec<u8>,
+) -> io::Result<bool>
+    ensures { IfOk result (λ whole. IsTrue whole → vec_len text.new < vec_len text.old + 262144) }
+{
+    match read_room(rt, path, text) {
+        Ok(count) if count < ROOM => Ok(true),
         Ok(_) => {
             eprintln!(rt; "a list has no room")?;
-            Ok(0)
+            Ok(false)
         }
         Err(error) => {
             eprintln!(rt; "{path}: {error}")?;
-            Ok(0)
+            Ok(false)
         }
     }
 }
 
-fn read_file(files: &impl Files, path: &str, text: &mut [u8]) -> io::Result<usize>
-    ensures { ReadsAtMost result text.new }
+// Reads until the room is full or the file ends, and answers how many bytes that were.
+fn read_room(files: &impl Files, path: &str, text: &mut Vec<u8>) -> io::Result<usize>
+    ensures { IfOk result (λ count. vec_len text.new ≡ vec_len text.old + count) }
 {
-    let mut file = fs::open(files, path)?;
-    read_full(&mut file, text)
+    fs::open(files, path)?.take(ROOM as u64).read_to_end(text)
 }
 
-// Reads until `text` is full or the input ends, and answers how many bytes stand at its start.
-fn read_full(input: &mut impl Read, text: &mut [u8]) -> io::Result<usize>
-    ensures { ReadsAtMost result text.new }
-{
-    let mut count = 0;
-    while count < text.len() {
-        let more = input.read(&mut text[count..])?;
-        if more == 0 {
-            break;
-        }
-        count += more;
-    }
-    Ok(count)
+// How many cases were compared, and how many of them differ.
+#[derive(Clone, Copy, Default)]
+pub struct Tally {
+    pub compared: u64,
+    pub different: u64,
 }
 
-// The first field at or behind place `at`, past blanks and past lines that begin with #.
-pub fn next(text: &[u8], at: usize) -> Field
-    requires { at ≤ length text.now }
-    ensures { InText text.now result × (at ≤ result.start) × (min (at + 1) (length text.now) ≤ result.end) }
-{
-    let start = field_start(text, at);
-    if start < text.len() {
-        Field {
-            start,
-            end: until(text, start + 1, b' ', b'\n'),
-        }
-    } else {
-        Field { start, end: start }
-    }
-}
-
-fn field_start(text: &[u8], at: usize) -> usize
-    requires { at ≤ length text.now }
-    ensures { (at ≤ result) × (result ≤ length text.now) }
-{
-    let mut i = at;
-    while i < text.len() {
-        match text[i] {
-            b' ' | b'\n' => i += 1,
-            b'#' => i = until(text, i + 1, b'\n', b'\n'),
-            _ => return i,
+impl Tally {
+    // One more case, which agrees or differs.
+    pub fn count(&mut self, agrees: bool)
+        ensures compared { self.new.compared ≡ min (self.old.compared + 1) 18446744073709551615 }
+        ensures different { self.new.different ≡
+            cond agrees self.old.different (min (self.old.different + 1) 18446744073709551615) }
+    {
+        self.compared = self.compared.saturating_add(1);
+        if !agrees {
+            self.different = self.different.saturating_add(1);
         }
     }
-    i
+
+    // The line that a replay program ends with.
+    pub fn report(self, rt: &impl Print, name: &str) -> io::Result<()> {
+        let compared = self.compared;
+        let different = self.different;
+        println!(rt; "{name}: {compared} compared, {different} different")
+    }
 }
 
-// The first place at or behind `at` that holds one of two bytes, or the text's end.
-fn until(text: &[u8], at: usize, one: u8, other: u8) -> usize
-    requires { at ≤ length text.now }
-    ensures { (at ≤ result) × (result ≤ length text.now) }
+// Replays cases: of each the closure says whether it agrees, or nothing where a field is not what it has to be, and then the
+// case differs.
+pub fn compare<F: FnMut(Fields<'_>) -> Option<bool>>(cases: Cases<'_>, mut agrees: F) -> Tally
+    requires { F.IsAlwaysCallable agrees }
 {
-    let mut i = at;
-    while i < text.len() {
-        if text[i] == one {
-            return i;
-        }
-        if text[i] == other {
-            return i;
-        }
-        i += 1;
+    let mut tally = Tally::default();
+    for case in cases {
+        tally.count(agrees(case) == Some(true));
     }
-    i
+    tally
 }
 
-// The field as a string of bytes, which goes to the start of `bytes`. It is not good where it is none, or has no room there.
-pub fn hex_bytes(text: &[u8], field: Field, bytes: &mut [u8]) -> Decoded
-    requires { InText text.now field }
-    ensures { IsPrefixLen result.count bytes.new }
+// Replays the list in the file `path`, of cases of `size` fields, under the name `name`.
+pub fn replay<F: FnMut(Fields<'_>) -> Option<bool>>(
+    rt: &(impl Files + Print + Eprint + AllocGlobal),
+    path: &str,
+    name: &str,
+    size: usize,
+    agrees: F,
+) -> io::Result<()>
+    requires { F.IsAlwaysCallable agrees }
 {
-    let start = field.start;
-    let end = field.end;
-    let count = (end - start) / 2;
-    if bytes.len() < count {
-        return Decoded {
-            good: false,
-            count: 0,
-        };
-    }
-    Decoded {
-        good: decode(&text[start..end], bytes),
-        count,
-    }
-}
-
-// Whether the digits are pairs, or the one - for no bytes. The bytes that they stand for go to the start of `bytes`.
-fn decode(digits: &[u8], bytes: &mut [u8]) -> bool
-    requires { length digits.now / 2 ≤ length bytes.old }
-{
-    if digits.len() % 2 == 1 {
-        return digits.len() == 1 && digits[0] == b'-';
-    }
-    for k in 0..digits.len() / 2 {
-        let value = pair(digits[2 * k], digits[2 * k + 1]);
-        if 255 < value {
-            return false;
-        }
-        bytes[k] = value as u8;
-    }
-    true
-}
-
-// The field as a number of at most sixteen digits.
-pub fn hex_number(text: &[u8], field: Field) -> Number
-    requires { InText text.now field }
-{
-    let start = field.start;
-    let end = field.end;
-    let mut good = start < end && end - start <= 16;
-    let mut value = 0;
-    for i in start..end {
-        let d = digit(text[i]);
-        good = good && d < 16;
-        // Of sixteen digits none is cut off.
-        value = value % 0x1000_0000_0000_0000 * 16 + d % 16;
-    }
-    Number { good, value }
-}
-
-// The byte that two digits stand for, or a number above 255.
-fn pair(high: u8, low: u8) -> u64
-    ensures { result < 512 }
-{
-    let h = digit(high);
-    let l = digit(low);
-    if 15 < l {
-        return 256;
-    }
-    h * 16 + l
-}
-
-// The value of a digit, 16 where the byte is none.
-fn digit(byte: u8) -> u64
-    ensures { result < 17 }
-{
-    match byte {
-        b'0'..=b'9' => (byte - b'0') as u64,
-        b'a'..=b'f' => (byte - b'a' + 10) as u64,
-        _ => 16,
-    }
-}
-
-// The line that a replay program ends with: how many cases were compared, and how many of them differ.
-pub fn report(rt: &impl Print, name: &str, compared: u64, different: u64) -> io::Result<()> {
-    println!(rt; "{name}: {compared} compared, {different} different")
+    let text = load(rt, path)?;
+    compare(Cases::of(&text, size), agrees).report(rt, name)
 }

@@ -1,72 +1,69 @@
-// Numbers and floats of stored cases: bytes with the high one first, and floats by their bits, where every NaN is stored
-// as one pattern.
-ghost use Rattle.std.specs.Prelude.{◌+◌, ◌*◌, ◌^◌, ◌≤◌, ◌<◌, length};
+// Numbers and floats of stored cases: each with its high byte first, and floats by their bits, where every NaN is stored as one
+// pattern.
+ghost use Rattle.std.specs.Prelude.{◌≡◌, ◌≤◌, ◌<◌, ◌++◌, length, MatchOption};
 
-pub fn wide(byte: u8) -> u64
-    ensures { result < 256 }
-{
-    byte as u64
+use std::num::{f32_from_bits_with_nan, f32_to_bits_with_nan};
+
+// What is left of a string of bytes, from which one number after the other is taken.
+#[derive(Clone, Copy)]
+pub struct Packed<'a> {
+    rest: &'a [u8],
 }
 
-pub fn pair(high: u8, low: u8) -> u64
-    ensures { result < 65536 }
-{
-    wide(high) * 256 + wide(low)
-}
-
-// Four bytes from place `at` on.
-pub fn word(raw: &[u8], at: usize) -> u64
-    requires { at + 4 ≤ length raw.now }
-    ensures { result < 2 ^ 32 }
-{
-    pair(raw[at], raw[at + 1]) * 65536 + pair(raw[at + 2], raw[at + 3])
-}
-
-// Eight bytes.
-pub fn number(raw: &[u8], at: usize) -> u64
-    requires { at + 8 ≤ length raw.now }
-{
-    word(raw, at) * 0x1_0000_0000 + word(raw, at + 4)
-}
-
-pub fn f32_of(bits: u64) -> f32 {
-    float::f32_from_bits((bits % 0x1_0000_0000) as u32)
-}
-
-pub fn f64_of(bits: u64) -> f64 {
-    let size = bits % 0x8000_0000_0000_0000;
-    if 0x7ff0_0000_0000_0000 < size {
-        return 0.0 / 0.0;
+impl<'a> Packed<'a> {
+    pub fn of(bytes: &'a [u8]) -> Self
+        ensures { result.rest.now ≡ bytes.now }
+    {
+        Packed { rest: bytes }
     }
-    f64::from_bits(bits)
-}
 
-fn widest(bits: u32) -> u64 {
-    bits as u64
-}
-
-pub fn bits_of_f32(x: f32) -> u64 {
-    if x != x {
-        return 0x7fc0_0000;
+    // The next N bytes.
+    pub fn array<const N: usize>(&mut self) -> Option<[u8; N]>
+        ensures { MatchOption result (length self.old.rest.now < N) (λ next. self.old.rest.now ≡ next ++ self.new.rest.now) }
+    {
+        let (next, rest) = self.rest.split_first_chunk()?;
+        self.rest = rest;
+        Some(*next)
     }
-    widest(f32::to_bits(x))
+
+    pub fn byte(&mut self) -> Option<u8> {
+        self.array().map(u8::from_be_bytes)
+    }
+
+    pub fn pair(&mut self) -> Option<u16> {
+        self.array().map(u16::from_be_bytes)
+    }
+
+    pub fn word(&mut self) -> Option<u32> {
+        self.array().map(u32::from_be_bytes)
+    }
+
+    pub fn number(&mut self) -> Option<u64> {
+        self.array().map(u64::from_be_bytes)
+    }
+
+    // The bytes that are left.
+    pub fn rest(self) -> &'a [u8]
+        ensures { result.now ≡ self.entry.rest.now }
+    {
+        self.rest
+    }
 }
 
-pub fn bits_of_f64(x: f64) -> u64 {
-    if x != x {
-        return 0x7ff8_0000_0000_0000;
+// N floats from the start of the bytes, 0.0 where there are none.
+pub fn floats<const N: usize>(bytes: &[u8]) -> [f32; N] {
+    let mut values = [0.0; N];
+    for (value, word) in values.iter_mut().zip(bytes.as_chunks().0) {
+        *value = f32_from_bits_with_nan(u32::from_be_bytes(*word));
     }
-    f64::to_bits(x)
+    values
 }
 
-// Whether the values are those whose bits stand at the start of `raw`.
-pub fn same(values: &[f32], raw: &[u8]) -> bool
-    requires { (4 * length values.now ≤ length raw.now) × (length values.now ≤ 64) }
-{
-    for i in 0..values.len() {
-        if bits_of_f32(values[i]) != word(raw, 4 * i) {
-            return false;
-        }
-    }
-    true
+// Whether the values are those whose bits the bytes have.
+pub fn same(values: &[f32], bytes: &[u8]) -> bool {
+    let (words, rest) = bytes.as_chunks();
+    rest.is_empty()
+        && words.len() == values.len()
+        && values.iter().zip(words).all(|(x, word)| f32_to_bits_with_nan(*x)
+            == u32::from_be_bytes(*word))
 }

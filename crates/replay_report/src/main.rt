@@ -5,10 +5,9 @@
 use std::io;
 use std::rt::Files;
 
-fn file(rt: &(impl Files + Print + Eprint), path: &str) -> io::Result<()> {
-    let mut bytes = replay_lists::room();
-    let count = replay_lists::load(rt, path, &mut bytes)?;
-    let answer = report::say(&bytes[..count]);
+fn file(rt: &(impl Files + Print + Eprint + AllocGlobal), path: &str) -> io::Result<()> {
+    let bytes = replay_lists::load(rt, path)?;
+    let answer = report::say(&bytes);
     let line = answer.bytes;
     let length = answer.length;
     rt.write_all(&line[..length])

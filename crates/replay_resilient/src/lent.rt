@@ -1,0 +1,103 @@
+// The memory that is lent: with something in it, which is looked at after each call, the samples by their CRC-32, the work area,
+// which has room to spare, place by place.
+ghost use Rattle.std.specs.Prelude.{◌≤◌};
+
+use crate::calls::{self, Text, same};
+use crc32::crc32;
+use picture::Picture;
+use refusal::Refusal;
+use std::num::{f32_from_bits_with_nan, f32_to_bits_with_nan};
+
+// Samples of four channels, and of three.
+pub const FOUR: usize = 1048576;
+
+pub const THREE: usize = 786432;
+
+// What writing needs, and some more.
+pub const PLACES: usize = 655360 + 64;
+
+// The two areas stand as two arrays: a struct of both has its lengths proved anew at each part that is lent, which took too long.
+pub type Samples = [u8; FOUR];
+
+pub type Work = [f32; PLACES];
+
+// Whether writing is refused so, where the first `n` samples and `m` places of the work area are lent, and these stay as they
+// were.
+pub fn refuses_to_write(
+    samples: &mut Samples,
+    n: usize,
+    work: &mut Work,
+    m: usize,
+    picture: Picture,
+    text: &[u8],
+    refusal: Refusal,
+) -> bool
+    requires { (n ≤ 1048576) × (m ≤ 655424) }
+{
+    let samples = &mut samples[..n];
+    let work = &mut work[..m];
+    lend(work);
+    let before = crc32(samples);
+    let answer = calls::write(samples, picture, text, None, work);
+    same(&answer, &Err(refusal)) && crc32(samples) == before && is_as_lent(work)
+}
+
+// The same of reading.
+pub fn refuses_to_read(
+    samples: &[u8],
+    work: &mut Work,
+    m: usize,
+    picture: Picture,
+    refusal: Refusal,
+) -> bool
+    requires { m ≤ 655424 }
+{
+    let work = &mut work[..m];
+    lend(work);
+    let answer = calls::read(samples, picture, None, work);
+    same(&answer, &Err(refusal)) && is_as_lent(work)
+}
+
+// Whether samples, of a picture that is not refused, are read so: the work area is used, whatever the record says.
+pub fn reads(
+    samples: &[u8],
+    work: &mut Work,
+    picture: Picture,
+    expected: Result<Text, Refusal>,
+) -> bool {
+    lend(work);
+    let answer = calls::read(samples, picture, None, work);
+    same(&answer, &expected) && is_used(work)
+}
+
+// The sample at a place, by the formula that the list was made with.
+fn sample(place: usize) -> u8 {
+    let p = place % FOUR;
+    ((p * 7 + p / 512 * 13 + p % 1021 * 5 + p % 97 * 3) % 256) as u8
+}
+
+pub fn draw(samples: &mut [u8]) {
+    for (place, value) in samples.iter_mut().enumerate() {
+        *value = sample(place);
+    }
+}
+
+// The bits that a place of the work area is lent with: another number in each, none of them 0.
+fn lent_bits(place: usize) -> u32 {
+    (place % FOUR) as u32 + 1
+}
+
+pub fn lend(work: &mut [f32]) {
+    for (place, value) in work.iter_mut().enumerate() {
+        *value = f32_from_bits_with_nan(lent_bits(place));
+    }
+}
+
+pub fn is_as_lent(work: &[f32]) -> bool {
+    work.iter().enumerate().all(|(place, value)| f32_to_bits_with_nan(*value) == lent_bits(place))
+}
+
+// Whether +0.0 is left everywhere.
+pub fn is_used(work: &[f32]) -> bool {
+    work.iter().all(|value| f32_to_bits_with_nan(*value) == 0)
+}
