@@ -13,7 +13,6 @@ ghost use Rattle.block.specs.Plane.{line_at, load_of, stored_of};
 ghost use Rattle.picture.specs.Sizes.{block_count, plane_size};
 
 use float::{floor_f32, min_f32, round_f32};
-use seq::copy_floats;
 
 // The places of the coefficients (1,1), (1,2), (2,1) and (2,2), which carry the bit.
 const COEFFICIENTS: [usize; 4] = [9, 10, 17, 18];
@@ -82,7 +81,7 @@ pub fn load_block(plane: &[f32], b: usize) -> [f32; 64]
     let mut values = [0.0f32; 64];
     for r in 0..8 {
         let at = line_at(b, r);
-        copy_floats(&plane[at..at + 8], &mut values, r * 8);
+        seq::copy(&plane[at..at + 8], &mut values, r * 8);
     }
     values
 }
@@ -94,6 +93,6 @@ pub fn store_block(plane: &mut [f32], b: usize, values: &[f32; 64])
 {
     for r in 0..8 {
         let at = line_at(b, r);
-        copy_floats(&values[r * 8..r * 8 + 8], plane, at);
+        seq::copy(&values[r * 8..r * 8 + 8], plane, at);
     }
 }

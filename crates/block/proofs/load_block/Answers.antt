@@ -42,7 +42,7 @@ loop-r-preserved c =
     let plane = c.args.plane.now in
     let room : at + 8 ≤ length plane = rw c.line_at-at.ensures (omega (arith, line-fits c.args.b l.r c.requires.0 c.loop-r-test.true)) in (
       search rules,
-      begun_more _ _ _ _ _ c.loop-r-test.true l.invariant.1 (line plane c.args.b l.r at c.line_at-at.ensures room) c.copy_floats.ensures,
+      begun_more _ _ _ _ _ c.loop-r-test.true l.invariant.1 (line plane c.args.b l.r at c.line_at-at.ensures room) c.copy.ensures,
     )
 
 pub returns : goal.returns

@@ -25,7 +25,7 @@ loop-r-preserved c =
     let eight : length (block_line (cell x) l.r) ≡ 8 = length-tab _ 8 in
     let room : at + 8 ≤ length l.plane = rw c.line_at-at.ensures (omega (arith, line-fits c.args.b l.r c.requires.0 c.loop-r-test.true)) in
     let its_line = line x l.r (omega arith) in
-    let e = c.copy_floats.ensures ∙ ap₂ (λ (xs : List Float) (n : ℕ). paste l.plane at xs n) its_line (ap length its_line ∙ eight) in (
+    let e = c.copy.ensures ∙ ap₂ (λ (xs : List Float) (n : ℕ). paste l.plane at xs n) its_line (ap length its_line ∙ eight) in (
       search rules,
       ap length e ∙ (length-paste l.plane at (block_line (cell x) l.r) 8 room (omega (arith, eight)) ∙ l.invariant.1),
       e ∙ rw (c.line_at-at.ensures, l.invariant.2) (pasted-more _ _ _ _ _),
