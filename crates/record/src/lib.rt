@@ -48,7 +48,7 @@ pub struct Key {
 }
 
 // A text of at most 32 bytes, with zeros after it.
-#[derive(Clone, Copy)]
+#[derive(Clone, Copy, PartialEq, Eq)]
 pub struct Text {
     bytes: [u8; ROOM],
     len: usize,
