@@ -5,19 +5,20 @@
 
 mod places;
 
+use dct::Transform;
 use replay_lists::cases::Fields;
 use replay_lists::stored::{Packed, floats, same};
 use std::io;
 
 fn forward(block: [f32; 64]) -> [f32; 64] {
     let mut values = block;
-    dct::forward(&mut values, &dct::dct_matrix(), &dct::dct_turned());
+    Transform::new().forward(&mut values);
     values
 }
 
 fn inverse(block: [f32; 64]) -> [f32; 64] {
     let mut values = block;
-    dct::inverse(&mut values, &dct::dct_matrix(), &dct::dct_turned());
+    Transform::new().inverse(&mut values);
     values
 }
 

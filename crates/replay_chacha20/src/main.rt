@@ -5,7 +5,6 @@
 mod keystream_end;
 mod vectors;
 
-use keystream::Applied;
 use replay_lists::cases::Fields;
 use std::io;
 
@@ -30,8 +29,5 @@ fn array<const N: usize>(text: &[u8]) -> Option<[u8; N]> {
 
 // The position after the bytes, over which the keystream is laid; None where it ends too early.
 fn apply(key: &[u8; 32], nonce: &[u8; 12], from: u64, bytes: &mut [u8]) -> Option<u64> {
-    match keystream::apply(key, nonce, from, bytes) {
-        Applied::Next(next) => Some(next),
-        Applied::KeystreamEnd => None,
-    }
+    keystream::apply(key, nonce, from, bytes).ok()
 }

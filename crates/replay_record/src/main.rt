@@ -3,13 +3,17 @@
 // list are built.
 #![tactic(auto)]
 
-mod calls;
-
-use calls::{Text, build, parse, told};
+use record::{Key, Lock, Text};
+use refusal::Refusal;
 use replay_lists::Tally;
 use replay_lists::cases::{Cases, Fields};
 use std::io;
 use std::rt::Files;
+
+// The refusal's number and the number given with it, or zeros for none.
+fn told<T>(answer: &Result<T, Refusal>) -> (u64, u64) {
+    (u64::from(refusal::code(answer)), refusal::given_for(answer))
+}
 
 // A key, or none where the field has no bytes.
 fn key_of(case: &mut Fields<'_>) -> Option<Option<[u8; 32]>> {
@@ -30,7 +34,8 @@ fn built(mut case: Fields<'_>) -> Option<bool> {
     let salted = case.bytes(&mut salt)?;
     let refusal = (case.number()?, case.number()?);
     let record = case.array()?;
-    let answer = build(&text[..count], key, salt);
+    let lock = key.map(|key| Lock { key, salt });
+    let answer = record_build::build_record(&text[..count], lock);
     let is_salted = salted == if key.is_some() { 4 } else { 0 };
     Some(is_salted && told(&answer) == refusal && answer.unwrap_or([0; 46]) == record)
 }
@@ -42,13 +47,9 @@ fn parsed(mut case: Fields<'_>) -> Option<bool> {
     let refusal = (case.number()?, case.number()?);
     let length = case.number()?;
     let bytes = case.array()?;
-    let answer = parse(&record, key);
-    let none = Text {
-        bytes: [0; 32],
-        length: 0,
-    };
-    let text = answer.unwrap_or(none);
-    Some(told(&answer) == refusal && text.length as u64 == length && text.bytes == bytes)
+    let answer = record_parse::parse_record(&record, key.map(|bytes| Key { bytes }));
+    let text = answer.unwrap_or(Text::empty());
+    Some(told(&answer) == refusal && text.len() as u64 == length && text.bytes() == bytes)
 }
 
 // The list in the file `path`. A case counts only with all its six fields.
@@ -66,7 +67,7 @@ fn list<F: Fn(Fields<'_>) -> Option<bool>>(
 
 // Whether the text is refused as too long, with its own length.
 fn is_too_long(text: &[u8]) -> bool {
-    told(&build(text, None, [0; 4])) == (1, text.len() as u64)
+    record_build::build_record(text, None) == Err(Refusal::TextTooLong(text.len()))
 }
 
 // Lengths that a byte or two would hold as 255, 0, 32 and 0.

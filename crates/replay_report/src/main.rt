@@ -7,10 +7,7 @@ use std::rt::Files;
 
 fn file(rt: &(impl Files + Print + Eprint + AllocGlobal), path: &str) -> io::Result<()> {
     let bytes = replay_lists::load(rt, path)?;
-    let answer = report::say(&bytes);
-    let line = answer.bytes;
-    let length = answer.length;
-    rt.write_all(&line[..length])
+    rt.write_all(report::say(&bytes).as_slice())
 }
 
 fn main(rt: HostRuntime) -> io::Result<()> {

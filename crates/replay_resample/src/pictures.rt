@@ -59,13 +59,7 @@ pub fn is_part(mut case: Fields<'_>, samples: &mut [u8; ROOM]) -> Option<bool> {
     }
     let samples = drawn(picture, pattern, samples)?;
     let mut plane = [0.0; PLANE];
-    resample_down::plane(
-        samples,
-        picture.width,
-        picture.height,
-        picture.channels,
-        &mut plane,
-    );
+    resample_down::plane(samples, picture, &mut plane);
     Some(same(plane.get(place..place + 64)?, &expected))
 }
 
@@ -93,12 +87,6 @@ pub fn is_changed(mut case: Fields<'_>, samples: &mut [u8; ROOM]) -> Option<bool
     let samples = drawn(picture, pattern, samples)?;
     let mut change = [0.0; PLANE];
     fill(&mut change, values.as_chunks().0);
-    resample_up::change_samples(
-        &change,
-        picture.width,
-        picture.height,
-        picture.channels,
-        samples,
-    );
+    resample_up::change_samples(&change, picture, samples);
     Some(samples.get(place..place + 64)? == expected.as_slice())
 }

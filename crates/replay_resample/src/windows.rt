@@ -3,7 +3,8 @@ ghost use Rattle.std.specs.Prelude.{◌≡◌, ◌*◌, ◌≤◌, length};
 
 use replay_lists::cases::Fields;
 use replay_lists::stored::{Packed, same};
-use resample_window::{Weight, Window};
+use resample_four::shares::Shares;
+use resample_window::Window;
 use std::num::{
     f32_to_bits_with_nan, f64_from_bits_with_nan, f64_to_bits_with_nan, nearest_i64_to_f64,
 };
@@ -33,13 +34,6 @@ pub fn is_window(mut case: Fields<'_>) -> Option<bool> {
     )
 }
 
-fn weight(window: Window, j: i64) -> Option<f32> {
-    match window.weight(j) {
-        Weight::Of(q) => Some(q),
-        Weight::Nothing => None,
-    }
-}
-
 // A window and a number; 1 and the weight, or zeros.
 pub fn is_weight(mut case: Fields<'_>) -> Option<bool> {
     let operand = case.array::<14>()?;
@@ -49,17 +43,16 @@ pub fn is_weight(mut case: Fields<'_>) -> Option<bool> {
     let j = float::floor_f64_to_i64(f64_from_bits_with_nan(operand.number()?));
     let mut expected = Packed::of(&expected);
     let stored = (expected.byte()?, expected.word()?);
-    Some(stored == weight(window, j).map_or((0, 0), |q| (1, f32_to_bits_with_nan(q))))
+    Some(stored == window.weight(j).map_or((0, 0), |q| (1, f32_to_bits_with_nan(q))))
 }
 
 // The luma of a row, a value for each pixel.
 fn luma(row: &[u8], channels: usize, out: &mut [f32])
     requires { (3 ≤ channels) × (channels ≤ 4) × (length row.now ≡ length out.old * channels) }
 {
-    let mut products = [0.0; 768];
-    resample_four::shares(&mut products);
+    let shares = Shares::new();
     for (x, value) in out.iter_mut().enumerate() {
-        *value = resample_four::luma_from(row, x * channels, &products);
+        *value = shares.luma(row, x * channels);
     }
 }
 

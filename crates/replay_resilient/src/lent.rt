@@ -2,9 +2,9 @@
 // which has room to spare, place by place.
 ghost use Rattle.std.specs.Prelude.{◌≤◌};
 
-use crate::calls::{self, Text, same};
 use crc32::crc32;
 use picture::Picture;
+use record::Text;
 use refusal::Refusal;
 use std::num::{f32_from_bits_with_nan, f32_to_bits_with_nan};
 
@@ -38,8 +38,8 @@ pub fn refuses_to_write(
     let work = &mut work[..m];
     lend(work);
     let before = crc32(samples);
-    let answer = calls::write(samples, picture, text, None, work);
-    same(&answer, &Err(refusal)) && crc32(samples) == before && is_as_lent(work)
+    let answer = resilient::write(samples, picture, text, None, work);
+    answer == Err(refusal) && crc32(samples) == before && is_as_lent(work)
 }
 
 // The same of reading.
@@ -54,8 +54,8 @@ pub fn refuses_to_read(
 {
     let work = &mut work[..m];
     lend(work);
-    let answer = calls::read(samples, picture, None, work);
-    same(&answer, &Err(refusal)) && is_as_lent(work)
+    let answer = resilient::read(samples, picture, None, work);
+    answer == Err(refusal) && is_as_lent(work)
 }
 
 // Whether samples, of a picture that is not refused, are read so: the work area is used, whatever the record says.
@@ -66,8 +66,8 @@ pub fn reads(
     expected: Result<Text, Refusal>,
 ) -> bool {
     lend(work);
-    let answer = calls::read(samples, picture, None, work);
-    same(&answer, &expected) && is_used(work)
+    let answer = resilient::read(samples, picture, None, work);
+    answer == expected && is_used(work)
 }
 
 // The sample at a place, by the formula that the list was made with.

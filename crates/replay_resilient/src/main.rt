@@ -4,7 +4,6 @@
 // lent with something in it and looked at after each call.
 #![tactic(auto)]
 
-mod calls;
 mod lent;
 mod limits;
 mod marks;

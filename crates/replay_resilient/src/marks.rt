@@ -1,10 +1,10 @@
 // The list of marks: texts written into pictures of 512 x 512, the smallest that can be written, and read from them.
 ghost use Rattle.std.specs.Prelude.{◌≤◌};
 
-use crate::calls::{self, Key, Lock, Text, told};
 use crate::lent::{FOUR, Samples, THREE, Work, draw, is_as_lent, is_used, lend};
 use crate::square;
 use crc32::crc32;
+use record::{Key, Lock, Text};
 use refusal::Refusal;
 use replay_lists::cases::{Cases, Fields};
 use std::io;
@@ -23,6 +23,11 @@ struct Case {
     key: Option<Key>,
     read: (u64, u64),
     ghost in_text: { length ≤ 64 },
+}
+
+// The refusal's number and the number given with it, or zeros for none.
+fn told<T>(answer: &Result<T, Refusal>) -> (u64, u64) {
+    (u64::from(refusal::code(answer)), refusal::given_for(answer))
 }
 
 // A key, or none where the field is not one.
@@ -70,14 +75,14 @@ fn samples_in(channels: usize) -> usize
 
 // Whether the text was read that was to be written.
 fn is_read(found: Text, text: &[u8; 64], length: usize) -> bool {
-    found.length == length && found.bytes.as_slice() == &text[..32]
+    found.len() == length && found.bytes().as_slice() == &text[..32]
 }
 
 // Whether the text is written as it is stored, or refused, and the work area used or not.
 fn writes(case: &Case, samples: &mut [u8], work: &mut Work) -> bool {
     lend(work);
     let text = &case.text[..case.length];
-    let answer = calls::write(samples, square(case.channels), text, case.lock, work);
+    let answer = resilient::write(samples, square(case.channels), text, case.lock, work);
     let is_left = if answer.is_ok() {
         is_used(work)
     } else {
@@ -89,7 +94,7 @@ fn writes(case: &Case, samples: &mut [u8], work: &mut Work) -> bool {
 // Whether the picture is read as is stored. The work area is used, whatever the record says.
 fn reads(case: &Case, samples: &[u8], work: &mut Work) -> bool {
     lend(work);
-    let answer = calls::read(samples, square(case.channels), case.key, work);
+    let answer = resilient::read(samples, square(case.channels), case.key, work);
     let is_right = match answer {
         Ok(found) => is_read(found, &case.text, case.length),
         Err(_) => true,

@@ -1,18 +1,20 @@
 // Pictures of a few pixels and damaged ones, and votes under a key.
-use crate::calls::{self, Key, Text, read_votes, same};
 use crate::lent::{Samples, THREE, Work, draw, reads};
 use crate::{shape, square};
+use extract::read_votes;
 use picture::BLOCKS;
+use record::{Key, Text};
 use refusal::Refusal;
 use replay_lists::Tally;
 use std::io;
 use std::rt::Files;
 
 // The text that is written into the picture that is damaged, and laid over the votes.
-const TEXT: Text = Text {
-    bytes: *b"Svalbard pass 4711\0\0\0\0\0\0\0\0\0\0\0\0\0\0",
-    length: 18,
-};
+const TEXT: &[u8] = b"Svalbard pass 4711";
+
+fn text() -> Text {
+    Text::new(TEXT)
+}
 
 // Pictures of a few pixels have all the blocks, and no mark in them.
 fn small(t: &mut Tally, s: &Samples, w: &mut Work) {
@@ -33,9 +35,9 @@ fn coarsen(samples: &mut [u8], mask: u8) {
 // A mark in samples that lose their six low bits is read, and with seven lost it is not.
 fn damaged(t: &mut Tally, samples: &mut Samples, w: &mut Work) {
     let s = &mut samples[..THREE];
-    let _ = calls::write(s, square(3), b"Svalbard pass 4711", None, w);
+    let _ = resilient::write(s, square(3), TEXT, None, w);
     coarsen(s, 0xc0);
-    t.count(reads(s, w, square(3), Ok(TEXT)));
+    t.count(reads(s, w, square(3), Ok(text())));
     coarsen(s, 0x80);
     t.count(reads(s, w, square(3), Err(Refusal::NoWatermark)));
 }
@@ -57,9 +59,9 @@ fn with_keys(votes: &[f32]) -> Tally {
     let damaged = Err(Refusal::WrongPasswordOrDamaged);
     let required = Err(Refusal::PasswordRequired(0xeec1_11a4));
     let mut tally = Tally::default();
-    tally.count(same(&read_votes(votes, Some(right)), &Ok(TEXT)));
-    tally.count(same(&read_votes(votes, Some(wrong)), &damaged));
-    tally.count(same(&read_votes(votes, None), &required));
+    tally.count(read_votes(votes, Some(right)) == Ok(text()));
+    tally.count(read_votes(votes, Some(wrong)) == damaged);
+    tally.count(read_votes(votes, None) == required);
     tally
 }
 
