@@ -33,7 +33,7 @@ fn glyph(d: u8) -> u8
 }
 
 impl Line {
-    pub fn new() -> Line
+    pub(crate) fn new() -> Line
         ensures { result ≡ [] }
     {
         Line {
@@ -48,7 +48,7 @@ impl Line {
         &self.bytes[..self.len]
     }
 
-    pub fn put(&mut self, piece: &[u8])
+    pub(crate) fn put(&mut self, piece: &[u8])
         requires { length self.old + length piece.now ≤ room_of_line }
         ensures { self.new ≡ self.old ++ piece.now }
     {
@@ -65,7 +65,7 @@ impl Line {
     }
 
     // The last digit behind those of the tenth; they are at most 20.
-    pub fn put_decimal(&mut self, n: u64)
+    pub(crate) fn put_decimal(&mut self, n: u64)
         requires { length self.old + length (decimal n) ≤ room_of_line }
         ensures { self.new ≡ self.old ++ decimal n }
     {
@@ -89,7 +89,7 @@ impl Line {
 
     // Two digits a byte, "-" if there is none.
     #[tactic(auto, using(crate::specs::Laws::hex_none, crate::specs::Laws::hex_some))]
-    pub fn put_hex(&mut self, bytes: &[u8])
+    pub(crate) fn put_hex(&mut self, bytes: &[u8])
         requires { length self.old + length (hex bytes.now) ≤ room_of_line }
         ensures { self.new ≡ self.old ++ hex bytes.now }
     {

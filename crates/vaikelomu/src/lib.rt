@@ -109,10 +109,7 @@ fn tell(
     ensures length { length.new ≡ length_of (text_given reading.now) }
     ensures number { given.new ≡ given_for reading.now }
 {
-    let read = match reading {
-        Ok(read) => *read,
-        Err(_) => Text::empty(),
-    };
+    let read = record::text_given(*reading);
     *text = read.bytes();
     *length = read.len();
     *given = refusal::given_for(reading);
