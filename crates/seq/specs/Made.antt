@@ -17,8 +17,8 @@ module _ {C A : Type 0} (g : Mut C (ℕ × Unit {0}) A) (f : ℕ → A) (c : C)
       let rest = subst (λ (d : C). IsFromFnResultFrom g d xs (i + 1) n) (gives i m.1 m.0 m.3).0 m.4 in
       rw there at (made-from xs (i + 1) n k z (omega arith) rest)
 
-  pub made : (xs : List A) (n : ℕ) → IsFromFnResult g c xs n → xs ≡ tab f n
-  made xs n m =
+  pub array_made : (xs : List A) (n : ℕ) → IsFromFnResult g c xs n → xs ≡ tab f n
+  array_made xs n m =
       ext_get_or (f 0) xs (tab f n) (m.long ∙ sym (length-tab f n))
       (λ k h.
       let below : k < n = omega (arith, m.long) in

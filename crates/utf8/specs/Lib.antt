@@ -8,4 +8,3 @@ pub mod Scalars
 pub mod Texts
 pub mod Examples
 pub mod Reading
-pub mod Reaches

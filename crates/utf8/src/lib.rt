@@ -2,12 +2,11 @@
 // writing: it counts the bytes that follow a lead byte, and lets overlong forms, surrogates and numbers above 10FFFF pass.
 #![tactic(auto)]
 
-ghost use Rattle.std.specs.Prelude.{◌≡◌, [], ℕ, List, ◌≤◌};
+ghost use Rattle.std.specs.Prelude.{◌≡◌, [], List};
 ghost use Rattle.utf8.specs.Forms.{Form, following, forms, accepts};
 ghost use Rattle.utf8.specs.Rfc3629.{UTF8-char, well_formed};
 ghost use Rattle.utf8.specs.Counted.{counted_char, counted};
 ghost use Rattle.utf8.specs.Reading.{due, due_of, expected};
-ghost use Rattle.utf8.specs.Reaches.{alone_rfc3629, alone_counting};
 
 // What has to follow: so many bytes, the first of them from a lowest to a highest, and the others from 80 to BF.
 #[derive(Clone, Copy)]
@@ -29,13 +28,9 @@ impl Due {
 trait Grammar {
     ghost characters: { List Form };
 
-    // What follows a first byte above 7F, or `None` where it starts no character.
+    // What follows a first byte, or `None` where it starts no character.
     fn after(lead: u8) -> Option<Due>
-        requires { 0x80 ≤ lead }
         ensures { expected result ≡ following characters lead };
-
-    // A byte up to 7F stands alone.
-    ghost ascii: { (b : ℕ) → b ≤ 0x7F → following characters b ≡ [] };
 }
 
 // RFC 3629, section 4.
@@ -44,10 +39,9 @@ struct Rfc3629;
 impl Grammar for Rfc3629 {
     ghost characters = { forms UTF8-char };
 
-    ghost ascii = { alone_rfc3629 };
-
     fn after(lead: u8) -> Option<Due> {
         match lead {
+            0x00..=0x7F => Some(Due::new(0, 0x80, 0xBF)),
             0xC2..=0xDF => Some(Due::new(1, 0x80, 0xBF)),
             0xE0 => Some(Due::new(2, 0xA0, 0xBF)),
             0xE1..=0xEC => Some(Due::new(2, 0x80, 0xBF)),
@@ -67,10 +61,9 @@ struct Counting;
 impl Grammar for Counting {
     ghost characters = { forms counted_char };
 
-    ghost ascii = { alone_counting };
-
     fn after(lead: u8) -> Option<Due> {
         match lead {
+            0x00..=0x7F => Some(Due::new(0, 0x80, 0xBF)),
             0xC0..=0xDF => Some(Due::new(1, 0x80, 0xBF)),
             0xE0..=0xEF => Some(Due::new(2, 0x80, 0xBF)),
             0xF0..=0xF7 => Some(Due::new(3, 0x80, 0xBF)),
@@ -90,7 +83,7 @@ fn takes<G: Grammar>(bytes: &[u8]) -> bool
                 return false;
             }
             due = Due::new(due.left - 1, 0x80, 0xBF);
-        } else if 0x7F < *b {
+        } else {
             let Some(next) = G::after(*b) else {
                 return false;
             };

@@ -2,7 +2,7 @@
 use Rattle.std.proofs.Common.{◌≡◌, ℕ, List, sym, ap, ◌∙◌, get_or, rules}
 use Rattle.std.proofs.Math.Nat.{div-add-mod'}
 use Rattle.std.specs.Float.Ieee.{Float, nan, binary32, sub}
-use Rattle.seq.specs.Made.{made}
+use Rattle.seq.specs.Made.{array_made}
 use Rattle.seq.specs.Tab.{tab-same}
 use Rattle.seq.specs.Lists.{tab}
 use Rattle.dct.specs.Grid.{grid, cell}
@@ -19,4 +19,4 @@ pub returns : goal.returns
 returns c =
     let x = c.args.x.now in
     let y = c.args.y.now in
-    made _ (less x y) _ (λ i z d k. search rules) _ 64 c.from_fn.ensures.items ∙ as-grid x y
+    array_made _ (less x y) _ (λ i z d k. search rules) _ 64 c.from_fn.ensures.items ∙ as-grid x y

@@ -8,7 +8,7 @@ use Rattle.utf8.specs.Forms.{Form, Range, ◌‥◌, never, following, accepts}
 use Rattle.utf8.specs.Strings.{lies, misses}
 use Rattle.utf8.specs.Reading.{due}
 use Rattle.utf8.proofs.takes.Goals as goal
-use Rattle.utf8.proofs.takes.Goals.{then-b-due-via-then-b-due, then-b-due-via-else-b-due+then-due-b, then-due-ne0+else-b-due+else-due-b, else-due-ne0+then-b-gt127+in-Some, else-due-ne0+else-b-gt127}
+use Rattle.utf8.proofs.takes.Goals.{then-b-due-via-then-b-due, then-b-due-via-else-b-due+then-due-b, then-due-ne0+else-b-due+else-due-b, else-due-ne0+in-Some}
 
 none_comes : (fs : List Form) (bs : List ℕ) → accepts fs (never ∷ []) bs ≡ false
 unfolding accepts
@@ -40,11 +40,6 @@ ends : (fs : List Form) (left low high : ℕ) → eqb left 0 ≡ accepts fs (due
 unfolding accepts due
 ends fs zero low high = refl
 ends fs (suc n) low high = ne_eqb (suc n) 0 (λ (e : suc n ≡ 0). omega arith)
-
-nothing_due : (left low high : ℕ) → left ≡ 0 → due left low high ≡ []
-unfolding due
-nothing_due zero low high z = refl
-nothing_due (suc n) low high z = absurd (omega arith)
 
 -- the invariant where byte i has been read
 read : (fs : List Form) (bs : List ℕ) (i left low high : ℕ) → i < length bs → accepts fs (due left low high) (drop i bs) ≡ accepts fs [] bs
@@ -80,10 +75,7 @@ loop-b-preserved g c =
       | then-due-ne0+else-b-due+else-due-b w ↦
           rw w.due-is (ap (λ (e : List Range). accepts fs e rest) w.new-due-then-due-ne0.ensures
           ∙ follows fs b rest d.left d.low d.high w.if-due-ne0.true w.if-b-due.false w.if-due-b.false ∙ here)
-      | else-due-ne0+then-b-gt127+in-Some w ↦ rw w.due-is (leads fs b rest d.left d.low d.high _ w.if-due-ne0.false w.in-Some.ensures ∙ here)
-      | else-due-ne0+else-b-gt127 w ↦
-          let alone : due d.left d.low d.high ≡ following fs b = nothing_due d.left d.low d.high w.if-due-ne0.false ∙ sym (g.met.G.Grammar.ascii b w.if-b-gt127.false) in
-          rw w.due-is (leads fs b rest d.left d.low d.high _ w.if-due-ne0.false alone ∙ here)
+      | else-due-ne0+in-Some w ↦ rw w.due-is (leads fs b rest d.left d.low d.high _ w.if-due-ne0.false w.in-Some.ensures ∙ here)
     ]
 
 pub returns : goal.returns

@@ -4,12 +4,16 @@ use Rattle.std.proofs.Common.{◌∙◌}
 use Rattle.utf8.specs.Forms.{forms}
 use Rattle.utf8.specs.Counted.{counted_char}
 use Rattle.utf8.specs.Reading.{due}
-use Rattle.utf8.specs.Reaches.{reaches}
+use Rattle.utf8.proofs.Reaches.{reaches}
 use Rattle.utf8.proofs.CountingGrammar.after.Goals as goal
+
+pub returns-in-0-to-127 : goal.returns-in-0-to-127
+unfolding forms due
+returns-in-0-to-127 c = c.new.ensures ∙ reaches (forms counted_char) 0 c.args.lead (omega arith)
 
 pub returns-in-192-to-223 : goal.returns-in-192-to-223
 unfolding forms due
-returns-in-192-to-223 c = c.new.ensures ∙ reaches (forms counted_char) 1 c.args.lead (omega arith)
+returns-in-192-to-223 c = c.new-in-192-to-223.ensures ∙ reaches (forms counted_char) 1 c.args.lead (omega arith)
 
 pub returns-in-224-to-239 : goal.returns-in-224-to-239
 unfolding forms due

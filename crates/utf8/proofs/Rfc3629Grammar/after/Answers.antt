@@ -4,7 +4,7 @@ use Rattle.std.proofs.Common.{◌∙◌}
 use Rattle.utf8.specs.Forms.{forms}
 use Rattle.utf8.specs.Rfc3629.{UTF8-char}
 use Rattle.utf8.specs.Reading.{due}
-use Rattle.utf8.specs.Reaches.{reaches}
+use Rattle.utf8.proofs.Reaches.{reaches}
 use Rattle.utf8.proofs.Rfc3629Grammar.after.Goals as goal
 
 pub returns-in-224 : goal.returns-in-224
@@ -22,6 +22,10 @@ returns-in-240 c = c.new-in-240.ensures ∙ reaches (forms UTF8-char) 6 c.args.l
 pub returns-in-244 : goal.returns-in-244
 unfolding forms due
 returns-in-244 c = c.new-in-244.ensures ∙ reaches (forms UTF8-char) 8 c.args.lead (omega arith)
+
+pub returns-in-0-to-127 : goal.returns-in-0-to-127
+unfolding forms due
+returns-in-0-to-127 c = c.new-in-0-to-127.ensures ∙ reaches (forms UTF8-char) 0 c.args.lead (omega arith)
 
 pub returns-in-194-to-223 : goal.returns-in-194-to-223
 unfolding forms due

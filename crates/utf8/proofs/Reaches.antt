@@ -1,12 +1,8 @@
 -- What follows a byte, from the place in the table of the form that it starts: it lies in that form's first range and in none before.
-use mathlib.Core.Path.{◌≡◌, refl, sym}
+use mathlib.Core.Path.{◌≡◌, refl}
 use mathlib.Core.List.{List, [], ◌∷◌}
 use Prim.Native.Nat.{ℕ, zero, suc}
-use native.Mathlib.Omega.{arith}
-use Prim.Native.Nat.{◌≤◌}
-use Rattle.utf8.specs.Forms.{Range, Form, forms, never, following}
-use Rattle.utf8.specs.Rfc3629.{UTF8-char}
-use Rattle.utf8.specs.Counted.{counted_char}
+use Rattle.utf8.specs.Forms.{Range, Form, never, following}
 use Rattle.utf8.specs.Strings.{In, lies, misses}
 
 -- form k is the first that b starts, or there is none below the table's length k
@@ -25,12 +21,3 @@ unfolding following
 reaches [] k b h = refl
 reaches (f ∷ fs) zero b h = rw (lies f.lead b h)
 reaches (f ∷ fs) (suc k) b h = rw (misses f.lead b h.0) (reaches fs k b h.1)
-
--- in both grammars a byte up to 7F stands alone
-pub alone_rfc3629 : (b : ℕ) → b ≤ 0x7F → following (forms UTF8-char) b ≡ []
-unfolding forms
-alone_rfc3629 b h = sym (reaches (forms UTF8-char) 0 b (omega arith))
-
-pub alone_counting : (b : ℕ) → b ≤ 0x7F → following (forms counted_char) b ≡ []
-unfolding forms
-alone_counting b h = sym (reaches (forms counted_char) 0 b (omega arith))
