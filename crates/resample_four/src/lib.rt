@@ -73,12 +73,14 @@ impl Narrower<'_, '_> {
         let mut u = -0.0f32;
         let mut v = -0.0f32;
         let mut w = -0.0f32;
-        for (from, q) in index.iter().zip(weight) {
+        // by number, and not over a zip, whose two tests a turn are slower here
+        for (n, from) in index.iter().enumerate() {
             let k = 4 * usize::from(*from);
-            t += *q * line[k];
-            u += *q * line[k + 1];
-            v += *q * line[k + 2];
-            w += *q * line[k + 3];
+            let q = weight[n];
+            t += q * line[k];
+            u += q * line[k + 1];
+            v += q * line[k + 2];
+            w += q * line[k + 3];
         }
         [t, u, v, w]
     }

@@ -1,5 +1,5 @@
 -- After some taps each of the four sums is theirs, over its own row.
-use Rattle.std.proofs.Common.{◌≡◌, ◌+◌, ◌*◌, ◌<◌, ℕ, List, length, take, refl, arith, Float}
+use Rattle.std.proofs.Common.{ap, get_or, ◌≡◌, ◌+◌, ◌*◌, ◌<◌, ℕ, List, length, take, refl, arith, Float}
 use Rattle.std.specs.Float.{nan, binary32}
 use Rattle.std.specs.Float.Ieee.{add, mul, neg, of_bits}
 use Rattle.std.specs.Slice.Iter.{iter_rest}
@@ -22,29 +22,33 @@ length-sources ts = length-map ts (λ t. t.from)
 length-weights : (ts : List Tap) → length (tap_weights ts) ≡ length ts
 length-weights ts = length-map ts (λ t. t.weight)
 
-pub loop-from-init : goal.loop-from-init
+pub loop-n-init : goal.loop-n-init
 unfolding neg of_bits tap_total
-loop-from-init c = (refl, refl, refl, refl)
+loop-n-init c = (refl, refl, refl, refl)
 
-pub loop-from-preserved : goal.loop-from-preserved
+pub bounds-weight-n : goal.bounds-weight-n
+bounds-weight-n c =
+    let ts = taps c.args.self.now.taps.src c.args.self.now.taps.dst c.args.x in
+    omega (arith, ap length c.of.ensures.from, ap length c.of.ensures.with, length-sources ts, length-weights ts)
+
+pub loop-n-preserved : goal.loop-n-preserved
 unfolding lane
-loop-from-preserved c =
+loop-n-preserved c =
     let width = c.args.self.now.pixels.picture.width in
     let axis = c.args.self.now.axis in
     let line = c.args.line.now in
-    let at = c.loop-from in
+    let at = c.loop-n in
     let ts = taps width 256 c.args.x in
     let from : c.of.result.0.now ≡ tap_sources ts = rw axis at c.of.ensures.from in
     let with : c.of.result.1.now ≡ tap_weights ts = rw axis at c.of.ensures.with in
-    let first : iter_rest (zip_first c.into_iter-from-iterator.result) ≡ tap_sources ts = cc in
-    let second : iter_rest (zip_second c.into_iter-from-iterator.result) ≡ tap_weights ts = cc in
-    let t = zip_turn (tap_sources ts) (tap_weights ts) at.yielded c.into_iter-from-iterator.result at.from-iterator c.next.new.self c.next.result first second at.yielded_by _ c.in-Some.is c.next.ensures.steps in
-    let less : length at.yielded < length ts = omega (arith, t.0, length-sources ts) in
-    let more : (l : ℕ) (v : Float) → v ≡ tap_total zero- (take (length at.yielded) ts) (lane line l)
-    → add binary32 v (mul binary32 c.in-Some.q.now (lane line l c.in-Some.from.now)) ≡ tap_total zero- (take (length at.yielded + 1) ts) (lane line l) =
-    λ l v e. tap-more width 256 c.args.x (lane line l) (length at.yielded) less _ _ (t.2 0) (t.3 nan) v e in
-    let zero : 4 * c.in-Some.from.now + 0 ≡ 4 * c.in-Some.from.now = omega arith in
-    rw (length_push, c.from-k.ensures) (rw zero at (more 0 at.t at.invariant.0), more 1 at.u at.invariant.1, more 2 at.v at.invariant.2, more 3 at.w at.invariant.3)
+    let less : at.n < length ts = omega (arith, ap length from, length-sources ts) in
+    let more : (l : ℕ) (v : Float) → v ≡ tap_total zero- (take at.n ts) (lane line l)
+    → add binary32 v (mul binary32 (get_or c.of.result.1.now at.n nan) (lane line l (get_or c.of.result.0.now at.n 0)))
+    ≡ tap_total zero- (take (at.n + 1) ts) (lane line l) =
+    λ l v e. tap-more width 256 c.args.x (lane line l) at.n less _ _ (ap (λ (xs : List ℕ). get_or xs at.n 0) from)
+    (ap (λ (xs : List Float). get_or xs at.n nan) with) v e in
+    let zero : 4 * get_or c.of.result.0.now at.n 0 + 0 ≡ 4 * get_or c.of.result.0.now at.n 0 = omega arith in
+    rw c.from-k.ensures (rw zero at (more 0 at.t at.invariant.0), more 1 at.u at.invariant.1, more 2 at.v at.invariant.2, more 3 at.w at.invariant.3)
 
 pub returns : goal.returns
 unfolding tab
@@ -52,13 +56,10 @@ returns c =
     let width = c.args.self.now.pixels.picture.width in
     let axis = c.args.self.now.axis in
     let line = c.args.line.now in
-    let at = c.loop-from in
+    let at = c.loop-n in
     let ts = taps width 256 c.args.x in
     let from : c.of.result.0.now ≡ tap_sources ts = rw axis at c.of.ensures.from in
-    let with : c.of.result.1.now ≡ tap_weights ts = rw axis at c.of.ensures.with in
-    let first : iter_rest (zip_first c.into_iter-from-iterator.result) ≡ tap_sources ts = cc in
-    let second : iter_rest (zip_second c.into_iter-from-iterator.result) ≡ tap_weights ts = cc in
-    let n = zip_end (tap_sources ts) (tap_weights ts) at.yielded c.into_iter-from-iterator.result at.from-iterator c.next.new.self c.next.result first second at.yielded_by c.in-None.is c.next.ensures.steps in
-    let all : (l : ℕ) (v : Float) → v ≡ tap_total zero- (take (length at.yielded) ts) (lane line l) → v ≡ across width 256 (lane line l) c.args.x =
-    λ l v e. all_there width 256 c.args.x (lane line l) (length at.yielded) v (omega (arith, n, length-sources ts, length-weights ts)) e in
+    let n : at.n ≡ length ts = omega (arith, ap length from, length-sources ts) in
+    let all : (l : ℕ) (v : Float) → v ≡ tap_total zero- (take at.n ts) (lane line l) → v ≡ across width 256 (lane line l) c.args.x =
+    λ l v e. all_there width 256 c.args.x (lane line l) at.n v n e in
     rw (all 0 at.t at.invariant.0, all 1 at.u at.invariant.1, all 2 at.v at.invariant.2, all 3 at.w at.invariant.3) refl
