@@ -1,4 +1,5 @@
--- Crate `record`: each public function's promise determines its outcome.
+-- Crate `record`: each public function's promise determines its outcome. Not here, since it hands out a slice of a text, and
+-- no promise says where that stands: `Text::as_slice`.
 use Rattle.determined.specs.One.{one}
 use Rattle.determined.specs.Determined.{Determined}
 use Rattle.record.specs.contracts as rec
@@ -16,5 +17,17 @@ intact-one κs a x y p q i = (one p q i, x.1)
 pub cover_one : Determined rec.cover.ended proved.cover.Reads.Post
 cover_one κs a x y p q i = (tt, (one p q i, (tt, tt)))
 
-pub not-read-one : Determined rec.not_read.ended proved.not_read.Reads.Post
-not-read-one κs a x y p q i = (one p q i, x.1)
+pub empty-one : Determined rec.Text.empty.ended proved.Text.empty.Reads.Post
+empty-one κs a x y p q i = (one p q i, x.1)
+
+pub new-one : Determined rec.Text.new.ended proved.Text.new.Reads.Post
+new-one κs a x y p q i = (one p q i, x.1)
+
+pub len-one : Determined rec.Text.len.ended proved.Text.len.Reads.Post
+len-one κs a x y p q i = (one p.0 q.0 i, x.1)
+
+pub bytes-one : Determined rec.Text.bytes.ended proved.Text.bytes.Reads.Post
+bytes-one κs a x y p q i = (one p q i, x.1)
+
+pub text-given-one : Determined rec.text_given.ended proved.text_given.Reads.Post
+text-given-one κs a x y p q i = (one p q i, x.1)

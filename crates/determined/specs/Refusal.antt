@@ -4,10 +4,10 @@ use Rattle.determined.specs.Determined.{Determined}
 use Rattle.refusal.specs.contracts as refusal
 use Rattle.refusal.proofs as proved
 
-pub number-one : Determined refusal.number.ended proved.number.Reads.Post
+pub number-one : Determined refusal.Refusal.number.ended proved.Refusal.number.Reads.Post
 number-one κs a x y p q i = (one p q i, x.1)
 
-pub given-one : Determined refusal.given.ended proved.given.Reads.Post
+pub given-one : Determined refusal.Refusal.given.ended proved.Refusal.given.Reads.Post
 given-one κs a x y p q i = (one p q i, x.1)
 
 pub code_one : Determined refusal.code.ended proved.code.Reads.Post

@@ -5,4 +5,4 @@ use Rattle.resample_up.specs.contracts as resample_up
 use Rattle.resample_up.proofs as proved
 
 pub change-samples-one : Determined resample_up.change_samples.ended proved.change_samples.Reads.Post
-change-samples-one κs a x y p q i = (tt, (tt, (tt, (tt, (tt, (one p q i, tt))))))
+change-samples-one κs a x y p q i = (tt, (tt, (tt, (one p q i, tt))))

@@ -7,11 +7,8 @@ use Rattle.seq.proofs as proved
 pub zero-floats-one : Determined seq.zero_floats.ended proved.zero_floats.Reads.Post
 zero-floats-one κs a x y p q i = (tt, (one p q i, tt))
 
-pub copy-bytes-one : Determined seq.copy_bytes.ended proved.copy_bytes.Reads.Post
-copy-bytes-one κs a x y p q i = (tt, (tt, (one p q i, (tt, tt))))
-
-pub copy-floats-one : Determined seq.copy_floats.ended proved.copy_floats.Reads.Post
-copy-floats-one κs a x y p q i = (tt, (tt, (one p q i, (tt, tt))))
+pub copy-one : Determined seq.copy.ended proved.copy.Reads.Post
+copy-one κs a x y p q i = (tt, (tt, (one p q i, (tt, tt))))
 
 pub little-endian-one : Determined seq.little_endian.ended proved.little_endian.Reads.Post
 little-endian-one κs a x y p q i = (one p q i, x.1)
