@@ -3,3 +3,4 @@ pub mod Cipher
 pub mod Blocks
 pub mod Stages
 pub mod Pictures
+pub mod Records

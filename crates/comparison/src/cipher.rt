@@ -4,7 +4,7 @@ ghost use Rattle.chacha20.specs.Rfc8439.{chacha_block};
 ghost use Rattle.keystream.specs.Apply.{applied_of, bytes_after, applied_number};
 ghost use Rattle.comparison.specs.Cipher.{next_of};
 
-use keystream::Applied;
+use keystream::{KeystreamEnd, Position};
 
 #[unsafe(no_mangle)]
 pub extern "C" fn vk_chacha20_block(
@@ -36,11 +36,11 @@ pub extern "C" fn vk_chacha20_apply(
     keystream::number(answer)
 }
 
-fn next_after(from: u64, answer: Applied) -> u64
+fn next_after(from: Position, answer: Result<Position, KeystreamEnd>) -> Position
     ensures { result ≡ next_of from answer }
 {
     match answer {
-        Applied::Next(p) => p,
-        Applied::KeystreamEnd => from,
+        Ok(p) => p,
+        Err(_) => from,
     }
 }

@@ -2,12 +2,35 @@
 // at `given`.
 ghost use Rattle.std.specs.Prelude.{◌≡◌};
 ghost use Rattle.record.specs.Record.{short, built_of, parsed_of};
-ghost use Rattle.record.specs.Answers.{read_as};
-ghost use Rattle.record_build.specs.Answers.{built_as};
+ghost use Rattle.record.specs.Answers.{text_given, padded};
 ghost use Rattle.refusal.specs.Numbers.{code_of, given_for};
 ghost use Rattle.record.specs.Given.{lock_from, key_from};
+ghost use Rattle.comparison.specs.Records.{record_given, length_given};
 
 use record::{Key, Lock};
+
+fn lock_of(keyed: bool, key: &[u8; 32], salt: &[u8; 4]) -> Option<Lock>
+    ensures { result ≡ lock_from keyed key.now salt.now }
+{
+    if keyed {
+        Some(Lock {
+            key: *key,
+            salt: *salt,
+        })
+    } else {
+        None
+    }
+}
+
+fn key_of(keyed: bool, key: &[u8; 32]) -> Option<Key>
+    ensures { result ≡ key_from keyed key.now }
+{
+    if keyed {
+        Some(Key { bytes: *key })
+    } else {
+        None
+    }
+}
 
 #[unsafe(no_mangle)]
 pub extern "C" fn vk_record(
@@ -18,22 +41,18 @@ pub extern "C" fn vk_record(
     bytes: &mut [u8; 46],
     given: &mut u64,
 ) -> u8
-    ensures answer { result ≡ code_of (built_as (built_of short text.now (lock_from keyed key.now salt.now))).answer }
-    ensures lent { bytes.new ≡ (built_as (built_of short text.now (lock_from keyed key.now salt.now))).bytes }
-    ensures number { given.new
-        ≡ given_for (built_as (built_of short text.now (lock_from keyed key.now salt.now))).answer }
+    ensures answer { result ≡ code_of (built_of short text.now (lock_from keyed key.now salt.now)) }
+    ensures lent { bytes.new ≡ record_given (built_of short text.now (lock_from keyed key.now salt.now)) }
+    ensures number { given.new ≡ given_for (built_of short text.now (lock_from keyed key.now salt.now)) }
 {
-    let lock = Lock {
-        given: keyed,
-        key: *key,
-        salt: *salt,
+    let built = record_build::build_record(text, lock_of(keyed, key, salt));
+    let code = refusal::code(&built);
+    *given = refusal::given_for(&built);
+    *bytes = match built {
+        Ok(made) => made,
+        Err(_) => [0; 46],
     };
-    let built = record_build::build_record(text, lock);
-    let made = built.bytes;
-    let answer = built.answer;
-    *bytes = made;
-    *given = refusal::given_for(answer);
-    refusal::code(answer)
+    code
 }
 
 #[unsafe(no_mangle)]
@@ -45,22 +64,16 @@ pub extern "C" fn vk_parse(
     length: &mut usize,
     given: &mut u64,
 ) -> u8
-    ensures answer { result ≡ code_of (read_as (parsed_of short bytes.now (key_from keyed key.now))).answer }
-    ensures lent { text.new ≡ (read_as (parsed_of short bytes.now (key_from keyed key.now))).text }
-    ensures long { length.new ≡ (read_as (parsed_of short bytes.now (key_from keyed key.now))).length }
-    ensures number { given.new ≡ given_for (read_as (parsed_of short bytes.now (key_from keyed key.now))).answer }
+    ensures answer { result ≡ code_of (parsed_of short bytes.now (key_from keyed key.now)) }
+    ensures lent { text.new ≡ padded (text_given (parsed_of short bytes.now (key_from keyed key.now))) }
+    ensures long { length.new ≡ length_given (parsed_of short bytes.now (key_from keyed key.now)) }
+    ensures number { given.new ≡ given_for (parsed_of short bytes.now (key_from keyed key.now)) }
 {
-    let reading = record_parse::parse_record(
-        bytes,
-        Key {
-            given: keyed,
-            bytes: *key,
-        },
-    );
-    let read = reading.text;
-    let answer = reading.answer;
-    *text = read;
-    *length = reading.length;
-    *given = refusal::given_for(answer);
-    refusal::code(answer)
+    let read = record_parse::parse_record(bytes, key_of(keyed, key));
+    let code = refusal::code(&read);
+    *given = refusal::given_for(&read);
+    let held = record::text_given(read);
+    *text = held.bytes();
+    *length = held.len();
+    code
 }

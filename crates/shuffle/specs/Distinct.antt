@@ -1,5 +1,6 @@
 -- The entries of a shuffle are distinct and below len, for every key: an exchange keeps a list so.
 use Rattle.std.specs.Prelude.{◌≡◌, ℕ, zero, suc, ◌+◌, ◌-◌, ◌<◌, ◌≤◌, min, Bool, true, false, cond, ◌⊎◌, List, [], length, take, ◌==◌, ◌≢◌, nat_le, slice_index, slice_set}
+use Rattle.std.specs.List.{swap}
 use Rattle.std.proofs.Math.Path.{refl}
 use Rattle.std.proofs.Common.{sym, ◌∙◌, length-take, get_or-set_same, get_or-take}
 use Rattle.std.proofs.Math.Logic.{inl, inr}
@@ -8,11 +9,12 @@ use native.Mathlib.Omega.{arith}
 use borrow.Author.Tests.{eq-eqb, ne_eqb}
 use Rattle.std.proofs.Math.ListN.{length-set}
 use Rattle.std.proofs.Math.Seq.{get_or-set_other}
+use Rattle.std.proofs.lemmas.List.Edits.{swap_is, length-swap}
 use Rattle.seq.specs.Tab.{length-tab, get_or-tab}
 use Rattle.seq.specs.Lists.{tab}
-use Rattle.shuffle.specs.declared.Drawn.{Drawn}
-use Rattle.shuffle.specs.declared.Drawn.TheVariants.{Found, End}
-use Rattle.shuffle.specs.Shuffle.{drawn, draws_from, swapped, made, stream_of, shuffled, longest_shuffle, shuffle_of, PartOf}
+use Rattle.keystream.specs.declared.KeystreamEnd.{KeystreamEnd}
+use Rattle.std.specs.Prelude.{Result, Ok, Err}
+use Rattle.shuffle.specs.Shuffle.{drawn, draws_from, made, stream_of, shuffled, longest_shuffle, shuffle_of, PartOf}
 use Rattle.shuffle.specs.Draws.{drawn-below}
 use Rattle.shuffle.specs.Entries.{made_more, made-end}
 
@@ -60,20 +62,19 @@ module _ (i j : ℕ) where
       go false false = hk
 
   module _ (l : List ℕ) (hi : i < length l) (hj : j < length l) where
-    length_exchanged : length (swapped i j l) ≡ length l
-    unfolding swapped
-    length_exchanged = simp length-set refl
+    length_exchanged : length (swap l i j) ≡ length l
+    length_exchanged = length-swap l i j
 
-    get_or-exchanged : (k : ℕ) → slice_index (swapped i j l) k ≡ slice_index l (before k)
-    unfolding swapped Cases
-    get_or-exchanged k = go (cases k)
+    get_or-exchanged : (k : ℕ) → slice_index (swap l i j) k ≡ slice_index l (before k)
+    unfolding Cases
+    get_or-exchanged k = rw (← swap_is l i j 0 hi hj) (go (cases k))
       where
         go : Cases k → slice_index (slice_set (slice_set l i (slice_index l j)) j (slice_index l i)) k ≡ slice_index l (before k)
         go (inl x) = rw (x.1, x.0) (get_or-set_same (slice_set l i (slice_index l j)) j (slice_index l i) 0 (simp length-set hj))
         go (inr (inl x)) = get_or-set_other (slice_set l i (slice_index l j)) j k (slice_index l i) 0 x.0 ∙ rw (x.2, x.1) (get_or-set_same l i (slice_index l j) 0 hi)
         go (inr (inr x)) = get_or-set_other (slice_set l i (slice_index l j)) j k (slice_index l i) 0 x.0 ∙ rw x.2 (get_or-set_other l i k (slice_index l j) 0 x.1)
 
-    exchanged-part : (m : ℕ) → PartOf m l → PartOf m (swapped i j l)
+    exchanged-part : (m : ℕ) → PartOf m l → PartOf m (swap l i j)
     exchanged-part m part = record {
       below = λ k h. rw (get_or-exchanged k) (part.below (before k) (before-below (length l) k hi hj (rw length_exchanged at h)));
       once = λ a b ha hb e.
@@ -106,14 +107,14 @@ unfolding made
 made-part stream m zero i p l h part = take_part m i l part
 made-part stream m (suc n) i p l h part = go (drawn stream (length l - i) (draws_from p) p) refl (λ q k. made-part stream m n (i + 1) q k)
   where
-    go : (d : Drawn) → drawn stream (length l - i) (draws_from p) p ≡ d
+    go : (d : Result (ℕ × ℕ) KeystreamEnd) → drawn stream (length l - i) (draws_from p) p ≡ d
         → ((q : ℕ) (k : List ℕ) → n + (i + 1) ≤ length k → PartOf m k → PartOf m (made stream n (i + 1) q k)) → PartOf m (made stream (suc n) i p l)
-    go End e again = rw (made-end stream n i p l (suc n) refl e) (take_part m i l part)
-    go (Found r q) e again =
+    go (Err d) e again = rw (made-end stream n i p l (suc n) refl e) (take_part m i l part)
+    go (Ok (r, q)) e again =
         let hi : i < length l = omega arith in
         let hj : i + r < length l = omega (arith, drawn-below stream (length l - i) (draws_from p) p r q (omega arith) e) in
         rw (made_more stream n i p l (suc n) r q refl e)
-        (again q (swapped i (i + r) l) (omega (arith, length_exchanged i (i + r) l hi hj)) (exchanged-part i (i + r) l hi hj m part))
+        (again q (swap l i (i + r)) (omega (arith, length_exchanged i (i + r) l hi hj)) (exchanged-part i (i + r) l hi hj m part))
 
 pub shuffled-part : (key : List ℕ) (len n : ℕ) → n ≤ len → PartOf len (shuffled key len n)
 unfolding shuffled

@@ -1,23 +1,24 @@
 -- The entries made: one more, none more, and all of them from the front of a longer list.
 use Rattle.std.specs.Prelude.{◌≡◌, ℕ, suc, ◌+◌, ◌-◌, ◌≤◌, min, Bool, true, false, cond, List, [], length, take, nat_le, refl}
+use Rattle.std.specs.List.{swap}
 use Rattle.std.proofs.Math.Path.{ap}
 use Rattle.std.proofs.Common.{◌∙◌, arith, take_at}
 use Rattle.seq.specs.Tab.{length-tab, tab-append}
 use Rattle.seq.specs.Lists.{tab}
-use Rattle.shuffle.specs.declared.Drawn.{Drawn}
-use Rattle.shuffle.specs.declared.Drawn.TheVariants.{Found, End}
-use Rattle.shuffle.specs.Shuffle.{drawn, draws_from, swapped, onward, made, stream_of, shuffled, longest_shuffle, shuffle_of}
+use Rattle.keystream.specs.declared.KeystreamEnd.{KeystreamEnd}
+use Rattle.std.specs.Prelude.{Result, Ok, Err}
+use Rattle.shuffle.specs.Shuffle.{drawn, draws_from, onward, made, stream_of, shuffled, longest_shuffle, shuffle_of}
 
 module _ (stream : ℕ → ℕ) (n i p : ℕ) (l : List ℕ) where
-  turn : Drawn → List ℕ
-  turn d = onward d (take i l) (λ r q. made stream n (i + 1) q (swapped i (i + r) l))
+  turn : Result (ℕ × ℕ) KeystreamEnd → List ℕ
+  turn d = onward d (take i l) (λ r q. made stream n (i + 1) q (swap l i (i + r)))
 
-  pub made_more : (m r q : ℕ) → m ≡ suc n → drawn stream (length l - i) (draws_from p) p ≡ Found r q
-      → made stream m i p l ≡ made stream n (i + 1) q (swapped i (i + r) l)
+  pub made_more : (m r q : ℕ) → m ≡ suc n → drawn stream (length l - i) (draws_from p) p ≡ Ok (r, q)
+      → made stream m i p l ≡ made stream n (i + 1) q (swap l i (i + r))
   unfolding made turn
   made_more m r q e d = ap (λ (k : ℕ). made stream k i p l) e ∙ ap turn d
 
-  pub made-end : (m : ℕ) → m ≡ suc n → drawn stream (length l - i) (draws_from p) p ≡ End → made stream m i p l ≡ take i l
+  pub made-end : (m : ℕ) → m ≡ suc n → drawn stream (length l - i) (draws_from p) p ≡ Err (record {}) → made stream m i p l ≡ take i l
   unfolding made turn
   made-end m e d = ap (λ (k : ℕ). made stream k i p l) e ∙ ap turn d
 

@@ -5,8 +5,8 @@ use Rattle.chacha20.specs.Rfc8439.{quarter, quarter_round, inner_block, rounds, 
 use Rattle.seq.specs.Bytes.{word, little_endian}
 use Rattle.layout.specs.Layout.{layout}
 use Rattle.picture.specs.Sizes.{block_count}
-use Rattle.shuffle.specs.declared.Drawn.TheVariants.{Found, End}
-use Rattle.shuffle.specs.Shuffle.{value_at, limit, drawn, swapped, made, shuffled, layout_key}
+use Rattle.std.specs.Prelude.{Ok, Err}
+use Rattle.shuffle.specs.Shuffle.{value_at, limit, drawn, made, shuffled, layout_key}
 
 -- a range of 1 and the powers of two take every number
 limit-whole : (limit 1 ≡ 2 ^ 64) × (limit 2 ≡ 2 ^ 64) × (limit 1024 ≡ 2 ^ 64) × (limit 4096 ≡ 2 ^ 64)
@@ -36,17 +36,17 @@ unfolding value_at highest
 lowest-first = refl
 
 -- for a range of 3 the first number is drawn again, for one of 4 it is not, and where no draw is left the stream ends
-drawn-again : (drawn highest 3 2 0 ≡ Found 0 16) × (drawn highest 4 2 0 ≡ Found 3 8) × (drawn highest 3 1 0 ≡ End)
+drawn-again : (drawn highest 3 2 0 ≡ Ok (0, 16)) × (drawn highest 4 2 0 ≡ Ok (3, 8)) × (drawn highest 3 1 0 ≡ Err (record {}))
 unfolding value_at limit drawn highest
 drawn-again = (refl, refl, refl)
 
 -- entry 0 is exchanged with entry 258 mod 4; a list that is not shuffled further keeps its order from there
 exchanged-once : made highest 2 0 8 (7 ∷ 8 ∷ 9 ∷ 6 ∷ []) ≡ 9 ∷ 8 ∷ []
-unfolding value_at limit drawn swapped made highest
+unfolding value_at limit drawn made highest
 exchanged-once = refl
 
 -- the layout begins as the shuffle of 1,024 with its key does; that it is that shuffle to its end is run
 layout-begins : shuffled layout_key block_count 2 ≡ take 2 layout
-unfolding layout layout_key shuffled made drawn value_at limit swapped tab keystream chacha_block block_from serialized little_endian sums rounds inner_block
+unfolding layout layout_key shuffled made drawn value_at limit tab keystream chacha_block block_from serialized little_endian sums rounds inner_block
     quarter_round quarter initial word
 layout-begins = refl

@@ -1,12 +1,12 @@
 -- The keyed shuffle. The scope: "for i from 0, range = len - i; draw 8 keystream bytes little-endian; draw again while the
 -- value is not below the largest multiple of range that is at most 2^64; r = value mod range; exchange entries i and i + r of
 -- the list 0, 1, 2 and so on." For any stream and any length of list, and what `shuffle` gives. Definitions only.
-use Rattle.std.specs.Prelude.{◌≡◌, ℕ, zero, suc, ◌+◌, ◌-◌, ◌*◌, ◌/◌, ◌%◌, ◌^◌, ◌<◌, min, Bool, true, false, cond, List, [], ◌∷◌, length, take, replicate, nat_le, nat_lt, slice_index, slice_set}
+use Rattle.std.specs.Prelude.{◌≡◌, ℕ, zero, suc, ◌+◌, ◌-◌, ◌*◌, ◌/◌, ◌%◌, ◌^◌, ◌<◌, min, Bool, true, false, cond, List, [], ◌∷◌, length, take, replicate, nat_le, nat_lt, slice_index, Result, Ok, Err}
+use Rattle.std.specs.List.{swap}
 use Rattle.seq.specs.Lists.{tab}
 use Rattle.chacha20.specs.Rfc8439.{keystream}
 use Rattle.keystream.specs.Apply.{left_at}
-use Rattle.shuffle.specs.declared.Drawn.{Drawn}
-use Rattle.shuffle.specs.declared.Drawn.TheVariants.{Found, End}
+use Rattle.keystream.specs.declared.KeystreamEnd.{KeystreamEnd}
 
 -- eight bytes of a stream from place p on, the lowest first
 unfoldable pub value_at : (ℕ → ℕ) → ℕ → ℕ
@@ -19,33 +19,29 @@ unfoldable pub limit : ℕ → ℕ
 limit range = 2 ^ 64 / range * range
 
 -- a number r that is taken, where place q is the next; or one drawn again from there on
-abbrev pub or_again : Bool → ℕ → ℕ → (ℕ → Drawn) → Drawn
-or_again true r q again = Found r q
+abbrev pub or_again : Bool → ℕ → ℕ → (ℕ → Result (ℕ × ℕ) KeystreamEnd) → Result (ℕ × ℕ) KeystreamEnd
+or_again true r q again = Ok (r, q)
 or_again false r q again = again q
 
 -- drawn from place p on, where the stream has bytes for n draws: the number below range and the place after it, or that the
 -- stream ends
-unfoldable pub drawn : (ℕ → ℕ) → ℕ → ℕ → ℕ → Drawn
-drawn stream range zero p = End
+unfoldable pub drawn : (ℕ → ℕ) → ℕ → ℕ → ℕ → Result (ℕ × ℕ) KeystreamEnd
+drawn stream range zero p = Err (record {})
 drawn stream range (suc n) p = or_again (nat_lt (value_at stream p) (limit range)) (value_at stream p % range) (p + 8) (drawn stream range n)
 
 -- how many draws the keystream has bytes for from place p on
 abbrev pub draws_from : ℕ → ℕ
 draws_from p = left_at p / 8
 
--- the entries i and j of a list exchanged
-unfoldable pub swapped : ℕ → ℕ → List ℕ → List ℕ
-swapped i j l = slice_set (slice_set l i (slice_index l j)) j (slice_index l i)
-
 -- what follows a draw, where the stream ended and where a number was found
-abbrev pub onward : {A : Type 0} → Drawn → A → (ℕ → ℕ → A) → A
-onward (Found r p) ended found = found r p
-onward End ended found = ended
+abbrev pub onward : {A : Type 0} → Result (ℕ × ℕ) KeystreamEnd → A → (ℕ → ℕ → A) → A
+onward (Ok d) ended found = found d.0 d.1
+onward (Err _) ended found = ended
 
 -- n entries more of the list l, of which i are made, drawn from place p on; those made where the stream ends
 unfoldable pub made : (ℕ → ℕ) → ℕ → ℕ → ℕ → List ℕ → List ℕ
 made stream zero i p l = take i l
-made stream (suc n) i p l = onward (drawn stream (length l - i) (draws_from p) p) (take i l) (λ r q. made stream n (i + 1) q (swapped i (i + r) l))
+made stream (suc n) i p l = onward (drawn stream (length l - i) (draws_from p) p) (take i l) (λ r q. made stream n (i + 1) q (swap l i (i + r)))
 
 -- the keystream of a key, with a nonce of zeros
 abbrev pub stream_of : List ℕ → ℕ → ℕ

@@ -1,15 +1,10 @@
--- The law on the limit, at what 0 - range wraps to.
-use Rattle.std.proofs.Common.{ℕ, ◌<◌, ltb, sym, ap, ◌∙◌, pos_of_ne-zero, arith}
-use Rattle.shuffle.specs.Shuffle.{limit}
+-- The law on the limit, at what -range wraps to.
+use Rattle.std.proofs.Common.{sym, arith}
 use Rattle.shuffle.specs.Draws.{limit-wraps, limit-none}
 use Rattle.shuffle.proofs.accepted.Goals as goal
 
-pub returns-then-range-eq0 : goal.returns-then-range-eq0
-returns-then-range-eq0 c = sym (ap (λ (r : ℕ). ltb c.args.value (limit r)) c.if-range-eq0.true ∙ limit-none c.args.value)
+pub returns-then-range-ne0 : goal.returns-then-range-ne0
+returns-then-range-ne0 c = limit-wraps c.args.value c.args.range c.wrapping_neg.result (omega arith) (omega (arith, c.wrapping_neg.ensures))
 
-pub returns : goal.returns
-returns c =
-    let start = c.args in
-    let w = c.wrapping_sub_u64.result in
-    let h : 0 < start.range = pos_of_ne-zero c.if-range-eq0.false in
-    limit-wraps start.value start.range w h (omega (arith, c.wrapping_sub_u64.ensures))
+pub returns-else-range-ne0 : goal.returns-else-range-ne0
+returns-else-range-ne0 c = rw c.if-range-ne0.false (sym (limit-none c.args.value))
