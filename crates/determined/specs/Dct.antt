@@ -1,4 +1,5 @@
--- Crate `dct`: each public function's promise determines its outcome.
+-- Crate `dct`: each public function's promise determines its outcome. Not here: `Transform::new`, whose outcome has private fields
+-- and is determined by the type's rule; what its methods make of a block is.
 use Rattle.determined.specs.One.{one}
 use Rattle.determined.specs.Determined.{Determined}
 use Rattle.dct.specs.contracts as dct
@@ -10,8 +11,8 @@ dct-matrix-one κs a x y p q i = (one p q i, x.1)
 pub dct-turned-one : Determined dct.dct_turned.ended proved.dct_turned.Reads.Post
 dct-turned-one κs a x y p q i = (one p q i, x.1)
 
-pub forward-one : Determined dct.forward.ended proved.forward.Reads.Post
-forward-one κs a x y p q i = (tt, (one p q i, (tt, (tt, tt))))
+pub forward-one : Determined dct.Transform.forward.ended proved.Transform.forward.Reads.Post
+forward-one κs a x y p q i = (tt, (tt, (one p q i, tt)))
 
-pub inverse-one : Determined dct.inverse.ended proved.inverse.Reads.Post
-inverse-one κs a x y p q i = (tt, (one p q i, (tt, (tt, tt))))
+pub inverse-one : Determined dct.Transform.inverse.ended proved.Transform.inverse.Reads.Post
+inverse-one κs a x y p q i = (tt, (tt, (one p q i, tt)))

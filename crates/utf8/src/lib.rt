@@ -40,8 +40,10 @@ impl Grammar for Rfc3629 {
     ghost characters = { forms UTF8-char };
 
     fn after(lead: u8) -> Option<Due> {
+        if lead <= 0x7F {
+            return Some(Due::new(0, 0x80, 0xBF));
+        }
         match lead {
-            0x00..=0x7F => Some(Due::new(0, 0x80, 0xBF)),
             0xC2..=0xDF => Some(Due::new(1, 0x80, 0xBF)),
             0xE0 => Some(Due::new(2, 0xA0, 0xBF)),
             0xE1..=0xEC => Some(Due::new(2, 0x80, 0xBF)),
@@ -62,8 +64,10 @@ impl Grammar for Counting {
     ghost characters = { forms counted_char };
 
     fn after(lead: u8) -> Option<Due> {
+        if lead <= 0x7F {
+            return Some(Due::new(0, 0x80, 0xBF));
+        }
         match lead {
-            0x00..=0x7F => Some(Due::new(0, 0x80, 0xBF)),
             0xC0..=0xDF => Some(Due::new(1, 0x80, 0xBF)),
             0xE0..=0xEF => Some(Due::new(2, 0x80, 0xBF)),
             0xF0..=0xF7 => Some(Due::new(3, 0x80, 0xBF)),

@@ -7,9 +7,9 @@ use Rattle.utf8.specs.Reading.{due}
 use Rattle.utf8.proofs.Reaches.{reaches}
 use Rattle.utf8.proofs.CountingGrammar.after.Goals as goal
 
-pub returns-in-0-to-127 : goal.returns-in-0-to-127
+pub returns-then-lead-le127 : goal.returns-then-lead-le127
 unfolding forms due
-returns-in-0-to-127 c = c.new.ensures ∙ reaches (forms counted_char) 0 c.args.lead (omega arith)
+returns-then-lead-le127 c = c.new.ensures ∙ reaches (forms counted_char) 0 c.args.lead (omega arith)
 
 pub returns-in-192-to-223 : goal.returns-in-192-to-223
 unfolding forms due

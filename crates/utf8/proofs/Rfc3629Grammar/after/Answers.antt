@@ -9,7 +9,7 @@ use Rattle.utf8.proofs.Rfc3629Grammar.after.Goals as goal
 
 pub returns-in-224 : goal.returns-in-224
 unfolding forms due
-returns-in-224 c = c.new.ensures ∙ reaches (forms UTF8-char) 2 c.args.lead (omega arith)
+returns-in-224 c = c.new-in-224.ensures ∙ reaches (forms UTF8-char) 2 c.args.lead (omega arith)
 
 pub returns-in-237 : goal.returns-in-237
 unfolding forms due
@@ -23,9 +23,9 @@ pub returns-in-244 : goal.returns-in-244
 unfolding forms due
 returns-in-244 c = c.new-in-244.ensures ∙ reaches (forms UTF8-char) 8 c.args.lead (omega arith)
 
-pub returns-in-0-to-127 : goal.returns-in-0-to-127
+pub returns-then-lead-le127 : goal.returns-then-lead-le127
 unfolding forms due
-returns-in-0-to-127 c = c.new-in-0-to-127.ensures ∙ reaches (forms UTF8-char) 0 c.args.lead (omega arith)
+returns-then-lead-le127 c = c.new.ensures ∙ reaches (forms UTF8-char) 0 c.args.lead (omega arith)
 
 pub returns-in-194-to-223 : goal.returns-in-194-to-223
 unfolding forms due
