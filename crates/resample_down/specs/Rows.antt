@@ -29,12 +29,6 @@ pub plane-length : (width height channels : ℕ) (samples : List ℕ) (y : ℕ) 
 unfolding plane_row
 plane-length width height channels samples y = length-tab _ 256
 
--- lumas put into a line leave its length as it is
-pub line_kept : (width height channels : ℕ) (samples : List ℕ) (g : ℕ) (line₀ line : List Float) → 4 * width ≤ length line₀
-    → line ≡ luma_line width height channels samples g line₀ → length line ≡ length line₀
-unfolding luma_line filled
-line_kept width height channels samples g line₀ line h e = ap length e ∙ simp (length-append, length-tab, length-drop) (omega arith)
-
 -- ---- a row of the four
 
 -- a part of n values, b places into a part of m

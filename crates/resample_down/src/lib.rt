@@ -93,6 +93,7 @@ impl Narrowing<'_, '_> {
         ensures { plane.new ≡ plane_of self.old.from.pixels.picture.width self.old.from.pixels.picture.height
             self.old.from.pixels.picture.channels self.old.from.pixels.samples.now }
     {
+        // by number, which also says the window of the row
         for y in 0..256usize {
             let a = y * 256;
             self.plane_row(y, &mut plane[a..a + 256]);

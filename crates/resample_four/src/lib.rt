@@ -53,6 +53,7 @@ impl Narrower<'_, '_> {
         let b = self.pixels.row((4 * g + 1).min(last));
         let c = self.pixels.row((4 * g + 2).min(last));
         let d = self.pixels.row((4 * g + 3).min(last));
+        // by number: a pixel of each of four rows, side by side
         for x in 0..width {
             let p = x * channels;
             let t = self.shares.luma(a, p);

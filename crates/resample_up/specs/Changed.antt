@@ -75,11 +75,6 @@ module _ (width height channels : ℕ) (change : List Float) (samples : List ℕ
     before : (m r : ℕ) → r < m → r * (width * channels) + width * channels ≤ m * (width * channels)
     before m r h = omega (arith, row_fits r (width * channels) m h, mul_comm (width * channels) m)
 
-    pub changed-rows-length : (m : ℕ) → m ≤ height → length (changed_rows width height channels change samples m) ≡ length samples
-    changed-rows-length m h =
-        length-pasted (width * channels) (λ r. r * (width * channels)) (changed_line width height channels change samples) changed-length samples m
-        (λ r k. fits r (omega arith))
-
     -- the next row is as it was
     pub next_row : (m : ℕ) → m < height → row_of (width * channels) (changed_rows width height channels change samples m) m ≡ row_of (width * channels) samples m
     unfolding row_of

@@ -14,10 +14,6 @@ pub wide-length : (width : ℕ) (change : List Float) (k : ℕ) → length (wide
 unfolding wide_row
 wide-length width change k = length-tab _ width
 
-pub change-length : (width height : ℕ) (change : List Float) (y : ℕ) → length (change_row width height change y) ≡ width
-unfolding change_row
-change-length width height change y = length-tab _ width
-
 -- ---- a row of the change
 
 pub change-of : (width height : ℕ) (change : List Float) (y : ℕ) → sum_rows width (wide_row width change) (taps 256 height y) ≡ change_row width height change y

@@ -95,6 +95,7 @@ impl Widening<'_, '_> {
             channels,
         } = picture;
         let n = width * channels;
+        // by number, which also says the window of the row
         for y in 0..height {
             let a = y * n;
             let e = a + n;

@@ -18,7 +18,7 @@ use Rattle.float_laws.specs.Values.{Within, Holds}
 use Rattle.float_laws.specs.Bounds.{holds-whole, round-within, within_more, add-within, sub_within, mul-within}
 use Rattle.float_laws.specs.Floors.{floor-bound, ceil-bound}
 use Rattle.resample_window.specs.declared.Window.{Window}
-use Rattle.resample_window.specs.Window.{scale_of, center_of, support_of, unsummed, with_sum, empty, is_side, has_window, window_of, Small}
+use Rattle.resample_window.specs.Window.{scale_of, center_of, support_of, unsummed, with_sum, empty, is_side, has_window, window_of}
 use Rattle.picture.specs.Sizes.{longest_side}
 
 -- ---- a window is that of an output sample that is there, or the one without a number
@@ -152,13 +152,6 @@ last-span : (c s : Float) → Within c (2 ^ 14 + 1) 1 → Within s longest_side 
 last-span c s h k =
     floor-bound binary64 63 (add binary64 c s) span (add-fits binary64 c s)
     (add-within binary64 c s (2 ^ 14 + 1) longest_side 1 (zero-lt-suc 0) (holds-whole binary64 span (lit≤ tt)) h k) (lit< tt)
-
-pub small-span : (w : Window) (c s : Float) → w ≡ unsummed c s → Within c (2 ^ 14 + 1) 1 → Within s longest_side 1 → Small w
-small-span w c s e h k =
-    rw e (
-      lt_of_le_of_lt (le_trans (mag-le (unsummed c s).first) (first-span c s h k)) (lit< tt),
-      lt_of_le_of_lt (le_trans (mag-le (unsummed c s).last) (last-span c s h k)) (lit< tt),
-    )
 
 pub first-within : (src dst i : ℕ) → unsigned_abs (window_of src dst i).first ≤ span
 first-within src dst i =

@@ -23,17 +23,11 @@ neg-mag (pos zero) = omega arith
 neg-mag (pos (suc n)) = omega arith
 neg-mag (negsuc n) = omega arith
 
-pub sum_fits : (z : ℤ) (n : ℕ) → mag z < 2 ^ 30 → n ≤ 2 ^ 32 → FitsSigned w64 (z +ℤ pos n)
-sum_fits z n a b = record { sfits = omega (arith, add-mag z (pos n)) }
-
 pub small-fits : (z : ℤ) → mag z < 2 ^ 30 → FitsSigned w64 z
 small-fits z a = record { sfits = omega arith }
 
 diff-mag : (a b : ℤ) → mag a < 2 ^ 30 → mag b < 2 ^ 30 → mag (b -ℤ a) < 2 ^ 32
 diff-mag a b A B = omega (arith, add-mag b (neg_ℤ a), neg-mag a)
-
-pub diff-fits : (a b : ℤ) → mag a < 2 ^ 30 → mag b < 2 ^ 30 → FitsSigned w64 (b -ℤ a)
-diff-fits a b A B = record { sfits = omega (arith, diff-mag a b A B) }
 
 -- ---- a difference that is not negative
 
@@ -54,9 +48,6 @@ diff-sign (negsuc a) (negsuc b) f = not-below (suc a) (suc b) (le-ltb (suc a) (s
 nat-mag : (z : ℤ) → unsigned_abs z ≤ mag z + 1
 nat-mag (pos n) = omega arith
 nat-mag (negsuc n) = omega arith
-
-pub diff-size : (a b : ℤ) → mag a < 2 ^ 30 → mag b < 2 ^ 30 → unsigned_abs (b -ℤ a) ≤ 2 ^ 32
-diff-size a b A B = omega (arith, diff-mag a b A B, nat-mag (b -ℤ a))
 
 pub numbers-small : (a b : ℤ) → mag a < 2 ^ 30 → mag b < 2 ^ 30 → numbers a b ≤ 2 ^ 32 + 1
 unfolding numbers

@@ -1,8 +1,8 @@
 -- How many taps a window has: a number with a positive tent lies less than `reach`, the least whole number that is at least src
 -- / dst, from the centre, so there are at most 2 * reach of them.
 -- In units of the smallest float the distance is exact, and every step after it is a rounding, which keeps the order. A tap reads inside the source.
-use Rattle.std.specs.Prelude.{Some, None, ◌≡◌, refl, ◌⊎◌, Bool, true, false, not, cond, List, [], ◌∷◌, ◌++◌, ℕ, zero, suc, ◌+◌, ◌-◌, ◌*◌, ◌/◌, ◌^◌, ◌≤◌, ◌<◌, ℤ, pos, negsuc, neg_ℤ, nat_abs, ◌+ℤ◌, ◌-ℤ◌, ◌*ℤ◌, length, get_or, T, ltb, eqb, Float}
-use Rattle.std.proofs.Common.{sym, ap, ◌∙◌, subst, inl, inr, true≢false, zero-le, suc-le-suc, le_of_suc-le-suc, le_refl, le_trans, le_of_eq, lt_of_lt_of_le, lt_of_not-le, zero-lt-suc, mul-one, one-mul, zero-mul, mul_comm, mul_assoc, mul-pos, mul-le-mul, mul-le-mul_right, add-mul, suc-mul, lt_of_mul-lt-mul_right, div-lt_iff_lt-mul, le-div_iff_mul-le, arith, length-append, ltb→lt, nltb→le, eqb→eq, lit≤, pow_pos}
+use Rattle.std.specs.Prelude.{Some, None, ◌≡◌, refl, ◌⊎◌, Bool, true, false, not, cond, ℕ, zero, suc, ◌+◌, ◌-◌, ◌*◌, ◌/◌, ◌^◌, ◌≤◌, ◌<◌, ℤ, pos, negsuc, neg_ℤ, nat_abs, ◌+ℤ◌, ◌-ℤ◌, ◌*ℤ◌, length, T, ltb, eqb, Float}
+use Rattle.std.proofs.Common.{sym, ap, ◌∙◌, subst, inl, inr, true≢false, zero-le, le_refl, le_trans, le_of_eq, lt_of_lt_of_le, lt_of_not-le, zero-lt-suc, mul-one, one-mul, zero-mul, mul_comm, mul_assoc, mul-pos, mul-le-mul, mul-le-mul_right, add-mul, suc-mul, lt_of_mul-lt-mul_right, div-lt_iff_lt-mul, le-div_iff_mul-le, arith, length-append, ltb→lt, nltb→le, eqb→eq, lit≤, pow_pos}
 use Rattle.std.proofs.Math.Nat.{lt-div-mul-add}
 use Rattle.std.proofs.Math.IntN.{suc_ℤ-*ℤ, +ℤ-suc_ℤ, +ℤ_assoc, +ℤ_comm, +ℤ_idr}
 use Rattle.std.proofs.Math.Arith.{le→nltb}
@@ -25,10 +25,8 @@ use Rattle.float_laws.specs.Exact.{abs-signed, is-neg, every-finite}
 use Rattle.float_laws.specs.AddError.{add_once}
 use Rattle.float_laws.specs.Bounds.{holds-whole, round-within, within-finite}
 use Rattle.resample_window.specs.declared.Window.{Window}
-use Rattle.resample_window.specs.declared.Tap.{Tap}
-use Rattle.resample_window.specs.Window.{tent_of, weight_of, numbers, center_of, support_of, unsummed, with_sum, empty, window_of, clamp_of, tap_of, taps_to, taps_of, taps}
+use Rattle.resample_window.specs.Window.{tent_of, weight_of, numbers, center_of, support_of, unsummed, with_sum, empty, clamp_of, tap_of, taps_to, taps_of, taps}
 use Rattle.picture.specs.Sizes.{longest_side}
-use Rattle.resample_window.specs.Signed.{clamp-below}
 use Rattle.resample_window_laws.specs.Support.{one-is, Between, support-between, center-fits, nat_abs-add, window-numbers-small}
 use Rattle.resample_window.specs.Range.{center-within, window-cases, first-within, span}
 

@@ -2,11 +2,7 @@
 use Rattle.std.proofs.Common.{ap, get_or, ◌≡◌, ◌+◌, ◌*◌, ◌<◌, ℕ, List, length, take, refl, arith, Float}
 use Rattle.std.specs.Float.{nan, binary32}
 use Rattle.std.specs.Float.Ieee.{add, mul, neg, of_bits}
-use Rattle.std.specs.Slice.Iter.{iter_rest}
-use Rattle.std.specs.Iterator.Adapters.{zip_first, zip_second}
 use Rattle.std.proofs.Math.ListN.{length-map}
-use Rattle.std.proofs.lemmas.List.{length_push}
-use Rattle.std.proofs.lemmas.Slice.Zip.{zip_turn, zip_end}
 use Rattle.seq.specs.Lists.{tab}
 use Rattle.float.specs.Base.{zero-}
 use Rattle.resample_window.specs.declared.Tap.{Tap}
