@@ -19,6 +19,7 @@ fn reads(votes: &[f32; BLOCKS], bytes: &[u8; RECORD]) -> bool {
 fn single_faults(bytes: &[u8; RECORD], fate: f32) -> Tally {
     let whole = laid(bytes);
     let mut tally = Tally::default();
+    // By number, since one vote of all is changed at a time.
     for b in 0..BLOCKS {
         let mut votes = whole;
         votes[b] = votes[b] * fate;

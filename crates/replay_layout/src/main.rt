@@ -5,8 +5,6 @@
 // A case is two strings of bytes, the operand and the result, in which a number has its high byte first.
 #![tactic(auto)]
 
-ghost use Rattle.std.specs.Prelude.{◌≤◌, length};
-
 use encoder::CODED;
 use picture::BLOCKS;
 use replay_lists::cases::Fields;

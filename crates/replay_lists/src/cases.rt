@@ -1,5 +1,5 @@
 // The fields of a text, what they hold, and its cases.
-ghost use Rattle.std.specs.Prelude.{◌≤◌, length, IfSome};
+ghost use Rattle.std.specs.Prelude.{length, IfSome};
 ghost use Rattle.std.specs.Iterator.{at_most};
 ghost use Rattle.replay_lists.specs.Fields.{IsNextField, IsPartBehind, IsPrefixLen};
 
@@ -125,6 +125,7 @@ impl<'a> Iterator for Cases<'a> {
     // The fields from the case's first on.
     fn next(&mut self) -> Option<Fields<'a>> {
         let case = self.fields;
+        // Counted by hand: no proof knows how far a closure goes on in `self.fields`.
         let mut found = 0;
         while found < self.size && self.fields.next().is_some() {
             found += 1;

@@ -1,6 +1,6 @@
 // Numbers and floats of stored cases: each with its high byte first, and floats by their bits, where every NaN is stored as one
 // pattern.
-ghost use Rattle.std.specs.Prelude.{◌≡◌, ◌≤◌, ◌<◌, ◌++◌, length, MatchOption};
+ghost use Rattle.std.specs.Prelude.{◌≡◌, ◌<◌, ◌++◌, length, MatchOption};
 
 use std::num::{f32_from_bits_with_nan, f32_to_bits_with_nan};
 

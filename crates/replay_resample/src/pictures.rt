@@ -1,5 +1,5 @@
 // Parts of the planes of pictures, and parts of pictures with a change put onto them.
-ghost use Rattle.std.specs.Prelude.{◌≡◌, ◌*◌, ◌≤◌, ◌<◌, length, IfSome};
+ghost use Rattle.std.specs.Prelude.{◌≡◌, ◌*◌, ◌≤◌, length, IfSome};
 
 use picture::{LONGEST, PLANE, Picture};
 use replay_lists::cases::Fields;

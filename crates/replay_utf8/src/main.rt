@@ -2,8 +2,6 @@
 // writing. Prints for each list how many strings were compared and how many differ.
 #![tactic(auto)]
 
-ghost use Rattle.std.specs.Prelude.{◌<◌};
-
 mod short;
 
 use replay_lists::cases::Fields;

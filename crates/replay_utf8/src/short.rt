@@ -21,6 +21,7 @@ fn answer_on(line: usize, last: u8) -> u64
 fn compare(k: usize, word: Option<u64>, tally: &mut Tally)
     requires { k < 2056 }
 {
+    // By number, since the number is the string.
     for j in 0..32 {
         let answer = answer_on(k / 8, (k % 8 * 32 + j) as u8);
         tally.count(word.is_some_and(|word| answer == (word >> (2 * j)) % 4));
