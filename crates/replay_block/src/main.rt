@@ -22,7 +22,8 @@ fn inverse(block: [f32; 64]) -> [f32; 64] {
     values
 }
 
-// A block, brought forward.
+// A block, brought forward. This and the next are two functions, since no proof was found that a closure which calls a closure
+// from block to block may be called.
 fn forwards(mut case: Fields<'_>) -> Option<bool> {
     let values = forward(floats(&case.array::<256>()?));
     Some(same(&values, &case.array::<256>()?))
