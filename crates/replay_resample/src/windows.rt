@@ -43,7 +43,12 @@ pub fn is_weight(mut case: Fields<'_>) -> Option<bool> {
     let j = float::floor_f64_to_i64(f64_from_bits_with_nan(operand.number()?));
     let mut expected = Packed::of(&expected);
     let stored = (expected.byte()?, expected.word()?);
-    Some(stored == window.weight(j).map_or((0, 0), |q| (1, f32_to_bits_with_nan(q))))
+    Some(
+        stored
+            == window
+                .weight(j)
+                .map_or((0, 0), |q| (1, f32_to_bits_with_nan(q))),
+    )
 }
 
 // The luma of a row, a value for each pixel.
