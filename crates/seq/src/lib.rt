@@ -15,13 +15,15 @@ pub fn zero_floats(s: &mut [f32])
     s.fill(0.0);
 }
 
-// The items of `from` stand in `to` from place `at` on; the rest of `to` is as it was.
+// The items of `from` stand in `to` from place `at` on; the rest of `to` is as it was. Item by item, since most parts are of a
+// few items, for which `copy_from_slice` takes longer.
 pub fn copy<T: Copy>(from: &[T], to: &mut [T], at: usize)
     requires { at + length from.now ≤ length to.old }
     ensures { to.new ≡ paste to.old at from.now (length from.now) }
 {
-    let end = at + from.len();
-    to[at..end].copy_from_slice(from);
+    for (i, item) in from.iter().enumerate() {
+        to[at + i] = *item;
+    }
 }
 
 // Four bytes as a number, the lowest first.
