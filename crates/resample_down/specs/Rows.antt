@@ -1,16 +1,16 @@
 -- The rows that are made on the way: how long they are, where they stand, and what their sum is.
 use Rattle.std.specs.Prelude.{◌≡◌, refl, List, ℕ, ◌+◌, ◌*◌, ◌/◌, ◌%◌, ◌≤◌, ◌<◌, length, get_or, take, drop, Float}
-use Rattle.std.proofs.Common.{sym, ◌∙◌, ap, arith, length-append, length-drop, get_or-take, get_or-drop}
+use Rattle.std.proofs.Common.{sym, ◌∙◌, ap, arith, get_or-take, get_or-drop}
 use Rattle.std.specs.Float.{nan}
 use Rattle.seq.specs.Tab.{length-tab, tab-same, get_or-tab}
-use Rattle.seq.specs.Lists.{filled, tab}
+use Rattle.seq.specs.Lists.{tab}
 use Rattle.seq.specs.Lines.{length-lines, get_or-lines, part-tab}
 use Rattle.resample_window.specs.Window.{taps}
 use Rattle.resample.specs.Samples.{luma_at, narrow_row, plane_row}
 use Rattle.picture.specs.Sizes.{row_of}
 use Rattle.resample.specs.Resampled.{across, sum_rows}
 use Rattle.resample.specs.Sums.{sum_rows-all}
-use Rattle.resample_four.specs.Four.{capped_at, luma_line, narrow_four}
+use Rattle.resample_four.specs.Four.{capped_at, narrow_four}
 use Rattle.resample_four.specs.Laws.{capped-own}
 
 -- ---- how long the rows are

@@ -14,7 +14,7 @@ use Rattle.float.specs.Calls.{rounded_byte}
 use Rattle.resample.specs.Samples.{changed_at, sample_value, wide_row, changed_row}
 use Rattle.picture.specs.Sizes.{row_of}
 use Rattle.resample.specs.Resampled.{across}
-use Rattle.resample.specs.Pixels.{filled_at, length-row}
+use Rattle.resample.specs.Pixels.{filled_at}
 
 -- a place that is not made yet is made already where it holds what the function says
 filled-kept : {A : Type 0} (f : ℕ → A) (n : ℕ) (d : List A) (z : A) → n < length d → get_or d n z ≡ f n → filled f n d ≡ filled f (n + 1) d

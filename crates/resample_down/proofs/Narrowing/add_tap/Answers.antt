@@ -1,5 +1,5 @@
 -- The row that is kept is as long as the sum.
-use Rattle.std.proofs.Common.{◌≡◌, ◌∙◌, sym, ap, length}
+use Rattle.std.proofs.Common.{◌∙◌, sym, ap, length}
 use Rattle.resample_down.specs.Rows.{narrow-length}
 use Rattle.resample_down.proofs.Narrowing.add_tap.Goals as goal
 

@@ -1,5 +1,5 @@
 -- The row stands with its neighbours where `held` says, or they are made and put there; the other places are as they were.
-use Rattle.std.proofs.Common.{◌≡◌, ◌+◌, ◌*◌, ◌/◌, ◌%◌, ◌≤◌, ◌∙◌, ap, suc, List, add-one, arith, length, get_or, Float}
+use Rattle.std.proofs.Common.{◌≡◌, ◌*◌, ◌/◌, ◌%◌, ◌∙◌, ap, suc, List, add-one, arith, length, get_or, Float}
 use Rattle.seq.specs.Lists.{on_part}
 use Rattle.resample.specs.Kept.{part-size, kept_here, kept_new}
 use Rattle.resample_four.specs.Four.{narrow_four}

@@ -1,5 +1,5 @@
 -- From zeros, the rows of the window's taps are added.
-use Rattle.std.proofs.Common.{◌≡◌, ◌<◌, ℕ, refl, ap, ◌∙◌, length, replicate}
+use Rattle.std.proofs.Common.{refl, ap, ◌∙◌, length, replicate}
 use Rattle.std.specs.Float.Ieee.{of_bits}
 use Rattle.float.specs.Base.{zero+}
 use Rattle.resample_window.specs.Window.{taps}

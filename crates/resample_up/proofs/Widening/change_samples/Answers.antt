@@ -1,5 +1,5 @@
 -- After y turns the first y rows are changed and the rest is as it was; `rows_more` is a turn.
-use Rattle.std.proofs.Common.{◌≡◌, ◌∙◌, ap, refl, ◌+◌, ◌*◌, ◌<◌, arith, length, get_or}
+use Rattle.std.proofs.Common.{◌≡◌, ◌∙◌, ap, refl, ◌*◌, ◌<◌, arith, get_or}
 use Rattle.std.specs.Float.{nan}
 use Rattle.seq.specs.Lists.{on_part}
 use Rattle.resample.specs.Samples.{change_row, changed_row}

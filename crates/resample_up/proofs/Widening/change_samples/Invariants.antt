@@ -1,5 +1,5 @@
 -- After y turns the first y rows are changed and the rest is as it was; `rows_more` is a turn.
-use Rattle.std.proofs.Common.{◌≡◌, length}
+use Rattle.std.proofs.Common.{◌≡◌}
 use Rattle.resample_up.specs.Changed.{changed_rows}
 use Rattle.resample_up.proofs.Widening.change_samples.Given as goal
 

@@ -1,5 +1,5 @@
 -- The row stands where `held` says, or is made and put there; the other place is as it was.
-use Rattle.std.proofs.Common.{◌≡◌, ◌∙◌, ap, ℕ, suc, ◌+◌, ◌-◌, ◌*◌, ◌%◌, ◌≤◌, add-one, arith, length, get_or, take, drop, length-drop, length-take-le, Float, List}
+use Rattle.std.proofs.Common.{◌≡◌, ◌∙◌, ap, suc, ◌*◌, ◌%◌, add-one, arith, length, get_or}
 use Rattle.seq.specs.Lists.{on_part}
 use Rattle.resample.specs.Samples.{wide_row}
 use Rattle.resample.specs.Pixels.{part-row}
