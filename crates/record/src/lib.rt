@@ -133,6 +133,7 @@ fn apply_cipher(key: &[u8; 32], bytes: &mut [u8])
 }
 
 // Length to inner CRC put under a key, or taken from under it.
+#[tactic(auto, unfolding(crate::specs::Record::covered, seq::specs::Lists::on_part))]
 pub fn cover(bytes: &mut [u8], key: &[u8; 32])
     requires { length bytes.old ≡ size short }
     ensures { bytes.new ≡ covered short key.now bytes.old }
