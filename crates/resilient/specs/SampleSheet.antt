@@ -6,12 +6,11 @@ use Rattle.block.specs.Sheet.{marked-sheet, term-sheet, rest-sheet, added_in_ord
 use Rattle.resample_window_laws.specs.Sheet.{halved, doubled}
 use Rattle.resample_up.specs.Sheet.{written}
 use Rattle.admission.specs.Admission.{shorter, longer, room_of, admission, write_admission}
-use Rattle.refusal.specs.Numbers.{first}
 use Rattle.resilient.specs.Resilient.{write_answer}
 use Rattle.resilient.specs.Sheet.{Sheet}
 
 pub sheet : Sheet
-unfolding write_answer write_admission admission shorter longer room_of first
+unfolding write_answer write_admission admission shorter longer room_of
 sheet = record {
   text_of_32 = λ lock. rw (of-32-passes lock) refl;
   text_of_33 = λ lock. rw (of-33-refused lock) refl;

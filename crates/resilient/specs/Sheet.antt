@@ -7,7 +7,7 @@ use Rattle.float.specs.Calls.{floor}
 use Rattle.refusal.specs.declared.Refusal.{Refusal}
 use Rattle.refusal.specs.declared.Refusal.TheVariants.{TextTooLong, ImageTooSmall, ImageTooLarge}
 use Rattle.record.specs.declared.Lock.{Lock}
-use Rattle.record_build.specs.Answers.{letters}
+use Rattle.record_build.specs.Sheet.{letters}
 use Rattle.encoder.specs.Ccsds131.{encode_of}
 use Rattle.block.specs.Mark.{half_of, marked_of}
 use Rattle.block.specs.Soft.{term_of, mean_of_four}

@@ -11,6 +11,7 @@ use refusal::Refusal;
 
 // Writes the text into the picture, plain or under the lock's key. Refused, with samples and work area as they were
 // lent: 1 to 7, the first that applies. Otherwise the work area ends as zeros.
+#[tactic(auto, using(crate::specs::Sized::write_ready, crate::specs::Sized::record_built), unfolding(crate::specs::Resilient::written_of, crate::specs::Resilient::write_answer, crate::specs::Resilient::if_done, crate::specs::Resilient::text_bits))]
 pub fn write(
     samples: &mut [u8],
     picture: Picture,
