@@ -17,17 +17,17 @@ intact-one κs a x y p q i = (one p q i, x.1)
 pub cover_one : Determined rec.cover.ended proved.cover.Reads.Post
 cover_one κs a x y p q i = (tt, (one p q i, (tt, tt)))
 
-pub empty-one : Determined rec.Text.empty.ended proved.Text.empty.Reads.Post
-empty-one κs a x y p q i = (one p q i, x.1)
+pub text-empty-one : Determined rec.Text.empty.ended proved.Text.empty.Reads.Post
+text-empty-one κs a x y p q i = (one p q i, x.1)
 
-pub new-one : Determined rec.Text.new.ended proved.Text.new.Reads.Post
-new-one κs a x y p q i = (one p q i, x.1)
+pub text-new-one : Determined rec.Text.new.ended proved.Text.new.Reads.Post
+text-new-one κs a x y p q i = (one p q i, x.1)
 
-pub len-one : Determined rec.Text.len.ended proved.Text.len.Reads.Post
-len-one κs a x y p q i = (one p.0 q.0 i, x.1)
+pub text-len-one : Determined rec.Text.len.ended proved.Text.len.Reads.Post
+text-len-one κs a x y p q i = (one p.0 q.0 i, x.1)
 
-pub bytes-one : Determined rec.Text.bytes.ended proved.Text.bytes.Reads.Post
-bytes-one κs a x y p q i = (one p q i, x.1)
+pub text-bytes-one : Determined rec.Text.bytes.ended proved.Text.bytes.Reads.Post
+text-bytes-one κs a x y p q i = (one p q i, x.1)
 
 pub text-given-one : Determined rec.text_given.ended proved.text_given.Reads.Post
 text-given-one κs a x y p q i = (one p q i, x.1)

@@ -22,9 +22,9 @@ picture_of width height channels = record { width = width; height = height; chan
 abbrev pub length_of : List ℕ → ℕ
 length_of text = length text
 
-abbrev pub record_given : Result (List ℕ) Refusal → List ℕ
-record_given (Ok bytes) = bytes
-record_given (Err _) = replicate record_size 0
+abbrev pub record_lent : Result (List ℕ) Refusal → List ℕ
+record_lent (Ok bytes) = bytes
+record_lent (Err _) = replicate record_size 0
 
 abbrev pub written_for : List ℕ → ℕ → ℕ → ℕ → List ℕ → ℕ → List ℕ → List ℕ → List Float → Written
 written_for samples width height channels text locked key salt work =

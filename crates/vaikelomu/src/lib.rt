@@ -8,7 +8,7 @@ ghost use Rattle.refusal.specs.Numbers.{code_of, given_for};
 ghost use Rattle.record.specs.Given.{lock_from, key_from};
 ghost use Rattle.record.specs.Answers.{text_given, padded};
 ghost use Rattle.extract.specs.Extract.{record_reading};
-ghost use Rattle.vaikelomu.specs.C.{version, is_set, picture_of, length_of, record_given, written_for, read_for, votes_for};
+ghost use Rattle.vaikelomu.specs.C.{version, is_set, picture_of, length_of, record_lent, written_for, read_for, votes_for};
 
 use encoder::RECORD;
 use picture::Picture;
@@ -166,7 +166,7 @@ pub fn vaikelomu_read_votes(
 // becomes the number given with it.
 pub fn vaikelomu_record(votes: &[f32], bytes: &mut [u8; RECORD], given: &mut u64) -> u8
     ensures answer { result ≡ code_of (record_reading votes.now) }
-    ensures bytes { bytes.new ≡ record_given (record_reading votes.now) }
+    ensures bytes { bytes.new ≡ record_lent (record_reading votes.now) }
     ensures number { given.new ≡ given_for (record_reading votes.now) }
 {
     let found = extract::record_of(votes);
