@@ -1,6 +1,6 @@
 -- Source numbers are signed and small: their sums and differences fit in 64 bits, and a clamp by tests is the clamp.
 use Rattle.std.specs.Prelude.{◌≡◌, min, ℕ, zero, suc, ◌+◌, ◌-◌, ◌^◌, ◌<◌, ◌≤◌, Bool, true, false, cond, T, ℤ, pos, negsuc, ◌+ℤ◌, ◌-ℤ◌, neg_ℤ, FitsSigned, int_lt, nat_lt, unsigned_abs, ◌≤ℤ◌, ◌<ℤ◌, refl}
-use Rattle.std.proofs.Common.{sym, subst, ◌∙◌, arith, ltb-false, le-ltb}
+use Rattle.std.proofs.Common.{sym, subst, ◌∙◌, not-suc-le-zero, arith, ltb-true, ltb-false, le-ltb}
 use Rattle.std.specs.Int.Signed.{mag, non_neg}
 use Rattle.std.proofs.lemmas.Int.{ints}
 use Rattle.std.specs.Int.{w64, FitsUnsignedBits}
@@ -23,11 +23,17 @@ neg-mag (pos zero) = omega arith
 neg-mag (pos (suc n)) = omega arith
 neg-mag (negsuc n) = omega arith
 
+pub sum_fits : (z : ℤ) (n : ℕ) → mag z < 2 ^ 30 → n ≤ 2 ^ 32 → FitsSigned w64 (z +ℤ pos n)
+sum_fits z n a b = record { sfits = omega (arith, add-mag z (pos n)) }
+
 pub small-fits : (z : ℤ) → mag z < 2 ^ 30 → FitsSigned w64 z
 small-fits z a = record { sfits = omega arith }
 
 diff-mag : (a b : ℤ) → mag a < 2 ^ 30 → mag b < 2 ^ 30 → mag (b -ℤ a) < 2 ^ 32
 diff-mag a b A B = omega (arith, add-mag b (neg_ℤ a), neg-mag a)
+
+pub diff-fits : (a b : ℤ) → mag a < 2 ^ 30 → mag b < 2 ^ 30 → FitsSigned w64 (b -ℤ a)
+diff-fits a b A B = record { sfits = omega (arith, diff-mag a b A B) }
 
 -- ---- a difference that is not negative
 
@@ -48,6 +54,9 @@ diff-sign (negsuc a) (negsuc b) f = not-below (suc a) (suc b) (le-ltb (suc a) (s
 nat-mag : (z : ℤ) → unsigned_abs z ≤ mag z + 1
 nat-mag (pos n) = omega arith
 nat-mag (negsuc n) = omega arith
+
+pub diff-size : (a b : ℤ) → mag a < 2 ^ 30 → mag b < 2 ^ 30 → unsigned_abs (b -ℤ a) ≤ 2 ^ 32
+diff-size a b A B = omega (arith, diff-mag a b A B, nat-mag (b -ℤ a))
 
 pub numbers-small : (a b : ℤ) → mag a < 2 ^ 30 → mag b < 2 ^ 30 → numbers a b ≤ 2 ^ 32 + 1
 unfolding numbers
@@ -111,15 +120,35 @@ numbers-first a b h = go (int_lt b a) refl (int_lt b (a +ℤ pos 1)) refl
 
 -- ---- a clamp
 
-pub clamp-low : (z : ℤ) (n : ℕ) → FitsSigned w64 z → ¬ (FitsUnsignedBits 64 z) → 0 ≡ clamp_of n z
+pub clamp-low : (z : ℤ) (n : ℕ) → int_lt z (pos 0) ≡ true → 0 ≡ clamp_of n z
 unfolding clamp_of
-clamp-low (pos k) n f h = absurd (h (omega arith))
-clamp-low (negsuc k) n f h = refl
+clamp-low (pos k) n t = absurd (not-suc-le-zero (ltb-true k 0 t))
+clamp-low (negsuc k) n t = refl
 
-pub clamp-inside : (z : ℤ) (n : ℕ) → FitsUnsignedBits 64 z → min (unsigned_abs z) (n - 1) ≡ clamp_of n z
+pub at-least-zero : (z : ℤ) → int_lt z (pos 0) ≡ false → T (non_neg z)
+at-least-zero (pos k) f = tt
+at-least-zero (negsuc k) f = absurd (subst T f tt)
+
+pub clamp-inside : (z : ℤ) (n : ℕ) → int_lt z (pos 0) ≡ false → unsigned_abs z < n → unsigned_abs z ≡ clamp_of n z
 unfolding clamp_of
-clamp-inside (pos k) n h = refl
-clamp-inside (negsuc k) n h = absurd h
+clamp-inside (pos k) n f h = omega arith
+clamp-inside (negsuc k) n f h = absurd (subst T f tt)
+
+pub clamp-high : (z : ℤ) (n : ℕ) → int_lt z (pos 0) ≡ false → n ≤ unsigned_abs z → n - 1 ≡ clamp_of n z
+unfolding clamp_of
+clamp-high (pos k) n f h = omega arith
+clamp-high (negsuc k) n f h = absurd (subst T f tt)
+
+-- and by the library's conversion and minimum, which the code takes
+pub clamp-negative : (z : ℤ) (n : ℕ) → FitsSigned w64 z → ¬ (FitsUnsignedBits 64 z) → 0 ≡ clamp_of n z
+unfolding clamp_of
+clamp-negative (pos k) n f h = absurd (h (omega arith))
+clamp-negative (negsuc k) n f h = refl
+
+pub clamp-min : (z : ℤ) (n : ℕ) → FitsUnsignedBits 64 z → min (unsigned_abs z) (n - 1) ≡ clamp_of n z
+unfolding clamp_of
+clamp-min (pos k) n h = refl
+clamp-min (negsuc k) n h = absurd h
 
 pub clamp-below : (z : ℤ) (n : ℕ) → 0 < n → clamp_of n z < n
 unfolding clamp_of
