@@ -4,5 +4,6 @@
 #![tactic(auto)]
 
 pub mod axis;
+pub mod kept;
 pub mod pixels;
 pub mod rows;
