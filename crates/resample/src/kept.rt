@@ -25,7 +25,8 @@ pub trait MakesRows {
     ghost laws: { RowLaws wide made same };
 }
 
-// Rows in SLOTS places of STRIDE values each, row k in place k mod SLOTS: `held` has k + 1 where row k stands.
+// Rows in SLOTS places of STRIDE values each, row k in place k mod SLOTS: `held` has k + 1 where row k stands. The fields
+// are open, as a constructor would move the maker's room and the rows, some 200,000 bytes.
 #[derive(Drop)]
 pub struct Kept<M: MakesRows, const STRIDE: usize, const SLOTS: usize, const ROOM: usize> {
     pub maker: M,
