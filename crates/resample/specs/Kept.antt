@@ -79,6 +79,12 @@ module _ (row : ℕ → List Float) (n stride places : ℕ) (held : List ℕ) (r
           rw (q, same) kept_here
       go r j R e (inr (inr l)) = other r j R (λ q. absurd (omega arith)) e (inr (omega (arith, row_fits s stride r l, mul_comm stride r, K.fits)))
 
+-- rows that are the same are kept as well
+pub kept_same : (row other : ℕ → List Float) (n m stride places : ℕ) (held : List ℕ) (rows : List Float) → m ≡ n → ((k : ℕ) → other k ≡ row k)
+    → KeptRows row n stride places held rows → KeptRows other m stride places held rows
+kept_same row other n m stride places held rows e same K =
+    rw e (record { is = λ s k S E. K.is s k S E ∙ sym (same k); held_room = K.held_room; rows_room = K.rows_room; fits = K.fits })
+
 -- none is kept at first
 pub kept-none : (row : ℕ → List Float) (n stride places : ℕ) (held : List ℕ) (rows : List Float) → ((s : ℕ) → get_or held s 0 ≡ 0) → length held ≡ places
     → length rows ≡ places * stride → n ≤ stride → KeptRows row n stride places held rows

@@ -2,6 +2,7 @@ pub mod Resampled
 pub mod Sheet
 pub mod Samples
 pub mod Tables
+pub mod Makes
 pub mod Taps
 pub mod Kept
 pub mod Pixels

@@ -1,9 +1,8 @@
 -- The rows that are made on the way: how long they are, where they stand, and what their sum is.
-use Rattle.std.specs.Prelude.{◌≡◌, refl, List, ℕ, ◌+◌, ◌*◌, ◌/◌, ◌%◌, ◌≤◌, ◌<◌, length, get_or, take, drop, Float}
-use Rattle.std.proofs.Common.{sym, ◌∙◌, ap, arith, get_or-take, get_or-drop}
+use Rattle.std.specs.Prelude.{◌≡◌, refl, List, ℕ, ◌+◌, ◌*◌, ◌/◌, ◌%◌, ◌<◌, length, get_or, take, drop, Float}
+use Rattle.std.proofs.Common.{◌∙◌, ap, arith}
 use Rattle.std.specs.Float.{nan}
 use Rattle.seq.specs.Tab.{length-tab, tab-same, get_or-tab}
-use Rattle.seq.specs.Lists.{tab}
 use Rattle.seq.specs.Lines.{length-lines, get_or-lines, part-tab}
 use Rattle.resample_window.specs.Window.{taps}
 use Rattle.resample.specs.Samples.{luma_at, narrow_row, plane_row}
@@ -31,29 +30,21 @@ plane-length width height channels samples y = length-tab _ 256
 
 -- ---- a row of the four
 
--- a part of n values, b places into a part of m
-part_of : (rows : List Float) (a m b n : ℕ) → b + n ≤ m → a + m ≤ length rows → (v : List Float) → take m (drop a rows) ≡ v
-    → take n (drop (a + b) rows) ≡ tab (λ x. get_or v (b + x) nan) n
-part_of rows a m b n h k v e =
-    part-tab rows (a + b) n nan (omega arith)
-    ∙ tab-same _ _ n
-    (λ x X.
-    let i : a + b + x ≡ a + (b + x) = omega arith in
-    rw i (sym (ap (λ (s : List Float). get_or s (b + x) nan) (sym e) ∙ (get_or-take m (drop a rows) (b + x) nan (omega arith) ∙ get_or-drop a rows (b + x) nan))))
-
 -- row i stands among its four
-pub row-among : (width height channels : ℕ) (samples : List ℕ) (rows : List Float) (i a : ℕ) → i < height → a + 1024 ≤ length rows
-    → take 1024 (drop a rows) ≡ narrow_four width height channels samples (i / 4) → take 256 (drop (a + i % 4 * 256) rows) ≡ narrow_row width channels samples i
+pub row-among : (width height channels : ℕ) (samples : List ℕ) (v : List Float) (i : ℕ) → i < height
+    → v ≡ narrow_four width height channels samples (i / 4) → take 256 (drop (i % 4 * 256) v) ≡ narrow_row width channels samples i
 unfolding narrow_four narrow_row
-row-among width height channels samples rows i a h k e =
+row-among width height channels samples v i h e =
     let four : ℕ → List Float = λ l. narrow_row width channels samples (capped_at (4 * (i / 4) + l) height) in
     let own : 4 * (i / 4) + i % 4 ≡ i = omega arith in
-    part_of rows a 1024 (i % 4 * 256) 256 (omega arith) k (narrow_four width height channels samples (i / 4)) e
+    let long : length v ≡ 1024 = ap length e ∙ four-length width height channels samples (i / 4) in
+    part-tab v (i % 4 * 256) 256 nan (omega arith)
     ∙ tab-same _ _ 256
     (λ x X.
-    get_or-lines 256 four (λ l. narrow-length width channels samples (capped_at (4 * (i / 4) + l) height)) 4 (i % 4) x nan (omega arith) X
+    ap (λ (s : List Float). get_or s (i % 4 * 256 + x) nan) e
+    ∙ (get_or-lines 256 four (λ l. narrow-length width channels samples (capped_at (4 * (i / 4) + l) height)) 4 (i % 4) x nan (omega arith) X
     ∙ (ap (λ (k : ℕ). get_or (narrow_row width channels samples k) x nan) (ap (λ (k : ℕ). capped_at k height) own ∙ capped-own i height h)
-    ∙ get_or-tab (across width 256 (luma_at channels (row_of (width * channels) samples i))) 256 x nan X))
+    ∙ get_or-tab (across width 256 (luma_at channels (row_of (width * channels) samples i))) 256 x nan X)))
 
 -- ---- a row of the plane
 

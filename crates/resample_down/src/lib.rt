@@ -4,15 +4,17 @@
 // of floats is needed.
 #![tactic(auto)]
 
-ghost use Rattle.std.specs.Prelude.{◌≡◌, ◌+◌, ◌<◌, ◌≤◌, length, take, drop};
+ghost use Rattle.std.specs.Prelude.{◌≡◌, refl, ◌*◌, ◌<◌, length};
 ghost use Rattle.seq.specs.Lists.{tab};
 ghost use Rattle.resample.specs.Samples.{narrow_row, plane_row, plane_of};
 ghost use Rattle.picture.specs.Sizes.{Sized, plane_size};
-ghost use Rattle.resample.specs.Tables.{added_at, KeptRows};
+ghost use Rattle.resample.specs.Tables.{added_at};
 ghost use Rattle.resample_four.specs.Four.{narrow_four};
+ghost use Rattle.resample_down.specs.Rows.{four-length};
 
 use picture::Picture;
 use resample::axis::{MOST, TapRoom, Taps};
+use resample::kept::{Kept, MakesRows};
 use resample::pixels::Pixels;
 use resample::rows::add_row;
 use resample_four::Narrower;
@@ -20,68 +22,68 @@ use resample_four::shares::Shares;
 use resample_window::{Tap, Window};
 use seq::zero_floats;
 
-// A picture on its way to the plane, with room for the lumas of four rows, and the rows that are kept, four to a place:
-// `held` has g + 1 where the rows 4 g to 4 g + 3 stand.
+// The rows of a picture brought to 256 values each, four at a time: its row g are the rows 4 g to 4 g + 3. `line` has room
+// for their lumas.
 #[derive(Drop)]
-struct Narrowing<'p, 't> {
+struct Fours<'p, 't> {
     from: Narrower<'p, 't>,
     line: [f32; 32768],
-    rows: [f32; 16384],
-    held: [u16; 16],
-    ghost kept: { KeptRows (narrow_four from.pixels.picture.width from.pixels.picture.height from.pixels.picture.channels
-        from.pixels.samples.now) 1024 1024 16 held rows },
+}
+
+impl MakesRows for Fours<'_, '_> {
+    ghost wide = { λ m. 1024 };
+
+    ghost made = { λ m. narrow_four m.from.pixels.picture.width m.from.pixels.picture.height m.from.pixels.picture.channels m.from.pixels.samples.now };
+
+    ghost can_make = { λ m g. 4 * g < m.from.pixels.picture.height };
+
+    ghost same = { λ m n. n.from ≡ m.from };
+
+    fn width(&self) -> usize {
+        1024
+    }
+
+    fn make(&mut self, g: usize, out: &mut [f32]) {
+        self.from.narrow_four(g, &mut self.line, out);
+    }
+
+    ghost laws = { record {
+      long = λ m g. four-length m.from.pixels.picture.width m.from.pixels.picture.height m.from.pixels.picture.channels m.from.pixels.samples.now g;
+      at_rest = λ m. refl;
+      wide_same = λ m n e. refl;
+      made_same = λ m n g e. rw e refl;
+    } };
+}
+
+// A picture on its way to the plane, and the rows that are kept, four to a place.
+#[derive(Drop)]
+struct Narrowing<'p, 't> {
+    fours: Kept<Fours<'p, 't>, 1024, 16, 16384>,
 }
 
 impl Narrowing<'_, '_> {
-    // Makes row i and its neighbours, unless they are kept, and answers its place among the rows.
-    fn keep(&mut self, i: usize) -> usize
-        requires { i < self.old.from.pixels.picture.height }
-        ensures same { self.new.from ≡ self.old.from }
-        ensures place { result + 256 ≤ 16384 }
-        ensures row { take 256 (drop result self.new.rows)
-            ≡ narrow_row self.old.from.pixels.picture.width self.old.from.pixels.picture.channels self.old.from.pixels.samples.now i }
-    {
-        let g = i / 4;
-        let slot = g % 16;
-        let a = slot * 1024;
-        let at = a + i % 4 * 256;
-        if self.held[slot] == (g + 1) as u16 {
-            return at;
-        }
-        let e = a + 1024;
-        self.from
-            .narrow_four(g, &mut self.line, &mut self.rows[a..e]);
-        self.held[slot] = (g + 1) as u16;
-        at
-    }
-
-    // The row that stands in a place.
-    fn row(&self, at: usize) -> &[f32]
-        requires { at + 256 ≤ 16384 }
-        ensures { result.now ≡ take 256 (drop at self.now.rows) }
-    {
-        &self.rows[at..at + 256]
-    }
-
     // Adds the row that a tap reads to the sum, with the tap's weight.
     fn add_tap(&mut self, tap: Tap, sum: &mut [f32])
-        requires { (tap.from < self.old.from.pixels.picture.height) × (length sum.old ≡ 256) }
-        ensures same { self.new.from ≡ self.old.from }
-        ensures row { sum.new ≡ tab (added_at sum.old tap.weight (narrow_row self.old.from.pixels.picture.width
-            self.old.from.pixels.picture.channels self.old.from.pixels.samples.now tap.from)) 256 }
+        requires { (tap.from < self.old.fours.maker.from.pixels.picture.height) × (length sum.old ≡ 256) }
+        ensures same { self.new.fours.maker.from ≡ self.old.fours.maker.from }
+        ensures row { sum.new ≡ tab (added_at sum.old tap.weight (narrow_row self.old.fours.maker.from.pixels.picture.width
+            self.old.fours.maker.from.pixels.picture.channels self.old.fours.maker.from.pixels.samples.now tap.from)) 256 }
     {
-        let at = self.keep(tap.from);
-        add_row(sum, self.row(at), tap.weight);
+        let slot = self.fours.keep(tap.from / 4);
+        let a = tap.from % 4 * 256;
+        let e = a + 256;
+        let four = self.fours.row(slot);
+        add_row(sum, &four[a..e], tap.weight);
     }
 
     // Row y of the plane: the rows of its window, each with its weight, in rising order.
     fn plane_row(&mut self, y: usize, out: &mut [f32])
         requires { length out.old ≡ 256 }
-        ensures same { self.new.from ≡ self.old.from }
-        ensures row { out.new ≡ plane_row self.old.from.pixels.picture.width self.old.from.pixels.picture.height
-            self.old.from.pixels.picture.channels self.old.from.pixels.samples.now y }
+        ensures same { self.new.fours.maker.from ≡ self.old.fours.maker.from }
+        ensures row { out.new ≡ plane_row self.old.fours.maker.from.pixels.picture.width self.old.fours.maker.from.pixels.picture.height
+            self.old.fours.maker.from.pixels.picture.channels self.old.fours.maker.from.pixels.samples.now y }
     {
-        let height = self.from.pixels.picture.height;
+        let height = self.fours.maker.from.pixels.picture.height;
         zero_floats(out);
         for tap in Window::new(height, 256, y).taps(height) {
             self.add_tap(tap, out);
@@ -90,8 +92,8 @@ impl Narrowing<'_, '_> {
 
     fn plane(&mut self, plane: &mut [f32])
         requires { length plane.old ≡ plane_size }
-        ensures { plane.new ≡ plane_of self.old.from.pixels.picture.width self.old.from.pixels.picture.height
-            self.old.from.pixels.picture.channels self.old.from.pixels.samples.now }
+        ensures { plane.new ≡ plane_of self.old.fours.maker.from.pixels.picture.width self.old.fours.maker.from.pixels.picture.height
+            self.old.fours.maker.from.pixels.picture.channels self.old.fours.maker.from.pixels.samples.now }
     {
         // by number, which also says the window of the row
         for y in 0..256usize {
@@ -112,14 +114,18 @@ pub fn plane(samples: &[u8], picture: Picture, plane: &mut [f32])
         weight: [0.0; MOST],
     };
     let mut narrowing = Narrowing {
-        from: Narrower {
-            pixels: Pixels { picture, samples },
-            shares: Shares::new(),
-            taps: Taps::new(picture.width, 256, &mut room),
+        fours: Kept {
+            maker: Fours {
+                from: Narrower {
+                    pixels: Pixels { picture, samples },
+                    shares: Shares::new(),
+                    taps: Taps::new(picture.width, 256, &mut room),
+                },
+                line: [0.0; 32768],
+            },
+            rows: [0.0; 16384],
+            held: [0; 16],
         },
-        line: [0.0; 32768],
-        rows: [0.0; 16384],
-        held: [0; 16],
     };
     narrowing.plane(plane);
 }

@@ -3,80 +3,83 @@
 // width, are kept, row k in place k mod 2.
 #![tactic(auto)]
 
-ghost use Rattle.std.specs.Prelude.{◌≡◌, ◌+◌, ◌*◌, ◌<◌, ◌≤◌, length, get_or, take, drop, pos};
+ghost use Rattle.std.specs.Prelude.{◌≡◌, refl, ◌*◌, ◌<◌, ◌≤◌, length, get_or, pos};
 ghost use Rattle.std.specs.Float.{nan, binary32};
 ghost use Rattle.std.specs.Float.Ieee.{add, of_int};
 ghost use Rattle.seq.specs.Lists.{tab};
 ghost use Rattle.float.specs.Calls.{rounded_byte};
 ghost use Rattle.resample.specs.Samples.{wide_row, change_row, changed_row, changed_of};
 ghost use Rattle.picture.specs.Sizes.{Sized, longest_side, plane_size};
-ghost use Rattle.resample.specs.Tables.{added_at, KeptRows};
+ghost use Rattle.resample.specs.Tables.{added_at};
+ghost use Rattle.resample_up.specs.Rows.{wide-length};
 
 use float::round_to_u8;
 use picture::Picture;
 use resample::axis::{MOST, TapRoom, Taps};
+use resample::kept::{Kept, MakesRows};
 use resample::rows::add_row;
 use resample_window::{Tap, Window};
 use seq::zero_floats;
 
-// A change of the plane on its way to a picture's width, and the rows of it that are kept: `held` has k + 1 where row k
-// stands.
+// The rows of a change of the plane, brought to a picture's width.
 #[derive(Drop)]
-struct Widening<'c, 't> {
+struct Wide<'c, 't> {
     width: usize,
     change: &'c [f32],
     taps: Taps<'t>,
-    rows: [f32; 16384],
-    held: [u16; 2],
     ghost plane: { length change.now ≡ plane_size },
     ghost axis: { taps ≡ record { src = 256; dst = width } },
-    ghost kept: { KeptRows (wide_row width change.now) width longest_side 2 held rows },
+}
+
+impl MakesRows for Wide<'_, '_> {
+    ghost wide = { λ m. m.width };
+
+    ghost made = { λ m. wide_row m.width m.change.now };
+
+    ghost can_make = { λ m k. k < 256 };
+
+    ghost same = { λ m n. (n.width ≡ m.width) × (n.change ≡ m.change) };
+
+    fn width(&self) -> usize {
+        self.width
+    }
+
+    fn make(&mut self, k: usize, out: &mut [f32]) {
+        let a = k * 256;
+        let e = a + 256;
+        self.taps.row(&self.change[a..e], out);
+    }
+
+    ghost laws = { record {
+      long = λ m k. wide-length m.width m.change.now k;
+      at_rest = λ m. (refl, refl);
+      wide_same = λ m n e. e.0;
+      made_same = λ m n k e. rw (e.0, e.1) refl;
+    } };
+}
+
+// A change of the plane on its way to a picture's width, and the rows of it that are kept.
+#[derive(Drop)]
+struct Widening<'c, 't> {
+    rows: Kept<Wide<'c, 't>, 8192, 2, 16384>,
 }
 
 impl Widening<'_, '_> {
-    // Makes row k, unless it is kept, and answers its place among the rows.
-    fn keep(&mut self, k: usize) -> usize
-        requires { k < 256 }
-        ensures same { (self.new.width ≡ self.old.width) × (self.new.change ≡ self.old.change) }
-        ensures place { result + self.old.width ≤ 16384 }
-        ensures row { take self.old.width (drop result self.new.rows) ≡ wide_row self.old.width self.old.change.now k }
-    {
-        let slot = k % 2;
-        let at = slot * 8192;
-        if self.held[slot] == (k + 1) as u16 {
-            return at;
-        }
-        let end = at + self.width;
-        let a = k * 256;
-        let e = a + 256;
-        self.taps.row(&self.change[a..e], &mut self.rows[at..end]);
-        self.held[slot] = (k + 1) as u16;
-        at
-    }
-
-    // The row that stands in a place.
-    fn row(&self, at: usize) -> &[f32]
-        requires { at + self.now.width ≤ 16384 }
-        ensures { result.now ≡ take self.now.width (drop at self.now.rows) }
-    {
-        &self.rows[at..at + self.width]
-    }
-
     // Adds the row that a tap reads to the sum, with the tap's weight.
     fn add_tap(&mut self, tap: Tap, sum: &mut [f32])
-        requires { (tap.from < 256) × (length sum.old ≡ self.old.width) }
-        ensures same { (self.new.width ≡ self.old.width) × (self.new.change ≡ self.old.change) }
-        ensures row { sum.new ≡ tab (added_at sum.old tap.weight (wide_row self.old.width self.old.change.now tap.from)) self.old.width }
+        requires { (tap.from < 256) × (length sum.old ≡ self.old.rows.maker.width) }
+        ensures same { (self.new.rows.maker.width ≡ self.old.rows.maker.width) × (self.new.rows.maker.change ≡ self.old.rows.maker.change) }
+        ensures row { sum.new ≡ tab (added_at sum.old tap.weight (wide_row self.old.rows.maker.width self.old.rows.maker.change.now tap.from)) self.old.rows.maker.width }
     {
-        let at = self.keep(tap.from);
-        add_row(sum, self.row(at), tap.weight);
+        let slot = self.rows.keep(tap.from);
+        add_row(sum, self.rows.row(slot), tap.weight);
     }
 
     // The change of row y of a picture of that width: the rows of its window, each with its weight, in rising order.
     fn change_row(&mut self, y: usize, height: usize, out: &mut [f32])
-        requires { length out.old ≡ self.old.width }
-        ensures same { (self.new.width ≡ self.old.width) × (self.new.change ≡ self.old.change) }
-        ensures row { out.new ≡ change_row self.old.width height self.old.change.now y }
+        requires { length out.old ≡ self.old.rows.maker.width }
+        ensures same { (self.new.rows.maker.width ≡ self.old.rows.maker.width) × (self.new.rows.maker.change ≡ self.old.rows.maker.change) }
+        ensures row { out.new ≡ change_row self.old.rows.maker.width height self.old.rows.maker.change.now y }
     {
         zero_floats(out);
         for tap in Window::new(256, height, y).taps(256) {
@@ -86,8 +89,8 @@ impl Widening<'_, '_> {
 
     // The change put onto the samples, row by row. `delta` has room for one row of the change.
     fn change_samples(&mut self, picture: Picture, delta: &mut [f32], samples: &mut [u8])
-        requires { Sized picture.width picture.height picture.channels samples.old × (picture.width ≡ self.old.width) × (length delta.old ≡ self.old.width) }
-        ensures { samples.new ≡ changed_of picture.width picture.height picture.channels self.old.change.now samples.old }
+        requires { Sized picture.width picture.height picture.channels samples.old × (picture.width ≡ self.old.rows.maker.width) × (length delta.old ≡ self.old.rows.maker.width) }
+        ensures { samples.new ≡ changed_of picture.width picture.height picture.channels self.old.rows.maker.change.now samples.old }
     {
         let Picture {
             width,
@@ -137,11 +140,15 @@ pub fn change_samples(change: &[f32], picture: Picture, samples: &mut [u8])
         weight: [0.0; MOST],
     };
     let mut widening = Widening {
-        width: picture.width,
-        change,
-        taps: Taps::new(256, picture.width, &mut room),
-        rows: [0.0; 16384],
-        held: [0; 2],
+        rows: Kept {
+            maker: Wide {
+                width: picture.width,
+                change,
+                taps: Taps::new(256, picture.width, &mut room),
+            },
+            rows: [0.0; 16384],
+            held: [0; 2],
+        },
     };
     let mut delta = [0.0f32; 8192];
     widening.change_samples(picture, &mut delta[..picture.width], samples);

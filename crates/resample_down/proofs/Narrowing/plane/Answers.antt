@@ -15,7 +15,7 @@ loop-y-init c = (refl, refl)
 pub loop-y-preserved : goal.loop-y-preserved
 unfolding on_part
 loop-y-preserved c =
-    let p = c.args.self.now.from.pixels in
+    let p = c.args.self.now.fours.maker.from.pixels in
     let at = c.loop-y in
     let made = c.plane_row in
     let row = plane_row p.picture.width p.picture.height p.picture.channels p.samples.now in

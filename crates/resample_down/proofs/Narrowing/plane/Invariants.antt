@@ -6,6 +6,6 @@ use Rattle.resample_down.proofs.Narrowing.plane.Given as goal
 
 abbrev pub invariant-loop-y : goal.invariant-loop-y
 invariant-loop-y l =
-    (l.self.from ≡ l.fn.self.from)
-    × (take (l.y * 256) l.plane ≡ lines (plane_row l.fn.self.from.pixels.picture.width l.fn.self.from.pixels.picture.height
-    l.fn.self.from.pixels.picture.channels l.fn.self.from.pixels.samples.now) l.y)
+    (l.self.fours.maker.from ≡ l.fn.self.fours.maker.from)
+    × (take (l.y * 256) l.plane ≡ lines (plane_row l.fn.self.fours.maker.from.pixels.picture.width l.fn.self.fours.maker.from.pixels.picture.height
+    l.fn.self.fours.maker.from.pixels.picture.channels l.fn.self.fours.maker.from.pixels.samples.now) l.y)

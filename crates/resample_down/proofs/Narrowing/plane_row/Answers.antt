@@ -13,13 +13,13 @@ use Rattle.resample_down.proofs.Narrowing.plane_row.Goals as goal
 
 pub taps-tap-items-requires : goal.taps-tap-items-requires
 taps-tap-items-requires c =
-    let p = c.args.self.now.from.pixels in
+    let p = c.args.self.now.fours.maker.from.pixels in
     (window-small c.new.result p.picture.height 256 c.args.y c.new.ensures, p.sized.high)
 
 pub loop-tap-init : goal.loop-tap-init
 unfolding of_bits
 loop-tap-init c =
-    let p = c.args.self.now.from.pixels in (
+    let p = c.args.self.now.fours.maker.from.pixels in (
       c.into_iter-tap-iterator.ensures.into_iter_gives ∙ (c.taps-tap-items.ensures ∙ taps-of c.new.result p.picture.height 256 c.args.y c.new.ensures),
       refl,
       c.zero_floats.ensures ∙ (ap (λ n. replicate n zero+) c.requires ∙ sum_rows-none 256 (narrow_row p.picture.width p.picture.channels p.samples.now)),
@@ -27,7 +27,7 @@ loop-tap-init c =
 
 pub add_tap-requires : goal.add_tap-requires
 add_tap-requires c =
-    let p = c.args.self.now.from.pixels in
+    let p = c.args.self.now.fours.maker.from.pixels in
     let i = c.loop-tap.invariant in
     let h = p.picture.height in
     rw i.1 (
@@ -37,7 +37,7 @@ add_tap-requires c =
 
 pub loop-tap-preserved : goal.loop-tap-preserved
 loop-tap-preserved c =
-    let p = c.args.self.now.from.pixels in
+    let p = c.args.self.now.fours.maker.from.pixels in
     let i = c.loop-tap.invariant in
     let row = narrow_row p.picture.width p.picture.channels p.samples.now in (
       next-more (taps p.picture.height 256 c.args.y) _ _ i.0 c.in-Some.tap _ c.in-Some.ensures.steps,
@@ -47,7 +47,7 @@ loop-tap-preserved c =
 
 pub returns-clause-row : goal.returns-clause-row
 returns-clause-row c =
-    let p = c.args.self.now.from.pixels in
+    let p = c.args.self.now.fours.maker.from.pixels in
     let i = c.loop-tap.invariant in
     i.2
     ∙ (ap (sum_rows 256 (narrow_row p.picture.width p.picture.channels p.samples.now))

@@ -7,5 +7,5 @@ use Rattle.resample_down.proofs.Narrowing.plane_row.Given as goal
 
 abbrev pub invariant-loop-tap : goal.invariant-loop-tap
 invariant-loop-tap l =
-    (l.yielded ++ l.tap-iterator ≡ taps l.fn.self.from.pixels.picture.height 256 l.fn.y) × (l.self.from ≡ l.fn.self.from)
-    × (l.out ≡ sum_rows 256 (narrow_row l.fn.self.from.pixels.picture.width l.fn.self.from.pixels.picture.channels l.fn.self.from.pixels.samples.now) l.yielded)
+    (l.yielded ++ l.tap-iterator ≡ taps l.fn.self.fours.maker.from.pixels.picture.height 256 l.fn.y) × (l.self.fours.maker.from ≡ l.fn.self.fours.maker.from)
+    × (l.out ≡ sum_rows 256 (narrow_row l.fn.self.fours.maker.from.pixels.picture.width l.fn.self.fours.maker.from.pixels.picture.channels l.fn.self.fours.maker.from.pixels.samples.now) l.yielded)

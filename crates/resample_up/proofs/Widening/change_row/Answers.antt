@@ -17,7 +17,7 @@ taps-tap-items-requires c = (window-small c.new.result 256 c.args.height c.args.
 pub loop-tap-init : goal.loop-tap-init
 unfolding of_bits
 loop-tap-init c =
-    let n = c.args.self.now in (
+    let n = c.args.self.now.rows.maker in (
       c.into_iter-tap-iterator.ensures.into_iter_gives ∙ (c.taps-tap-items.ensures ∙ taps-of c.new.result 256 c.args.height c.args.y c.new.ensures),
       refl,
       refl,
@@ -35,7 +35,7 @@ add_tap-requires c =
 
 pub loop-tap-preserved : goal.loop-tap-preserved
 loop-tap-preserved c =
-    let n = c.args.self.now in
+    let n = c.args.self.now.rows.maker in
     let i = c.loop-tap.invariant in
     let row = wide_row n.width n.change.now in (
       next-more (taps 256 c.args.height c.args.y) _ _ i.0 c.in-Some.tap _ c.in-Some.ensures.steps,
@@ -46,7 +46,7 @@ loop-tap-preserved c =
 
 pub returns-clause-row : goal.returns-clause-row
 returns-clause-row c =
-    let n = c.args.self.now in
+    let n = c.args.self.now.rows.maker in
     let i = c.loop-tap.invariant in
     i.3
     ∙ (ap (sum_rows n.width (wide_row n.width n.change.now)) (walked (taps 256 c.args.height c.args.y) _ _ i.0 c.in-None.ensures.steps.0)

@@ -7,5 +7,5 @@ use Rattle.resample_up.proofs.Widening.change_row.Given as goal
 
 abbrev pub invariant-loop-tap : goal.invariant-loop-tap
 invariant-loop-tap l =
-    (l.yielded ++ l.tap-iterator ≡ taps 256 l.fn.height l.fn.y) × (l.self.width ≡ l.fn.self.width) × (l.self.change ≡ l.fn.self.change)
-    × (l.out ≡ sum_rows l.fn.self.width (wide_row l.fn.self.width l.fn.self.change.now) l.yielded)
+    (l.yielded ++ l.tap-iterator ≡ taps 256 l.fn.height l.fn.y) × (l.self.rows.maker.width ≡ l.fn.self.rows.maker.width) × (l.self.rows.maker.change ≡ l.fn.self.rows.maker.change)
+    × (l.out ≡ sum_rows l.fn.self.rows.maker.width (wide_row l.fn.self.rows.maker.width l.fn.self.rows.maker.change.now) l.yielded)

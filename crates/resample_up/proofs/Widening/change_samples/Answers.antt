@@ -11,13 +11,13 @@ use Rattle.resample_up.proofs.Widening.change_samples.Goals as goal
 pub loop-y-init : goal.loop-y-init
 loop-y-init c =
     let p = c.args.picture in
-    (refl, refl, rows_none p.width p.height p.channels c.args.self.now.change.now c.args.samples.now)
+    (refl, refl, rows_none p.width p.height p.channels c.args.self.now.rows.maker.change.now c.args.samples.now)
 
 pub loop-y-preserved : goal.loop-y-preserved
 unfolding on_part
 loop-y-preserved c =
     let p = c.args.picture in
-    let change = c.args.self.now.change.now in
+    let change = c.args.self.now.rows.maker.change.now in
     let at = c.loop-y in
     let n = p.width * p.channels in
     let less : at.y < p.height = omega arith in
@@ -32,4 +32,4 @@ pub returns : goal.returns
 returns c =
     let p = c.args.picture in
     let e : c.loop-y.y ≡ p.height = omega arith in
-    (rw e at c.loop-y.invariant.2) ∙ rows_all p.width p.height p.channels c.args.self.now.change.now c.args.samples.now c.requires.0.full
+    (rw e at c.loop-y.invariant.2) ∙ rows_all p.width p.height p.channels c.args.self.now.rows.maker.change.now c.args.samples.now c.requires.0.full

@@ -5,4 +5,4 @@ use Rattle.resample_up.proofs.Widening.change_samples.Given as goal
 
 abbrev pub invariant-loop-y : goal.invariant-loop-y
 invariant-loop-y l =
-    (l.self.width ≡ l.fn.self.width) × (l.self.change ≡ l.fn.self.change) × (l.samples ≡ changed_rows l.width l.height l.channels l.fn.self.change.now l.fn.samples l.y)
+    (l.self.rows.maker.width ≡ l.fn.self.rows.maker.width) × (l.self.rows.maker.change ≡ l.fn.self.rows.maker.change) × (l.samples ≡ changed_rows l.width l.height l.channels l.fn.self.rows.maker.change.now l.fn.samples l.y)
