@@ -25,16 +25,6 @@ loop-tap-init c =
       c.zero_floats.ensures ∙ (ap (λ n. replicate n zero+) c.requires ∙ sum_rows-none 256 (narrow_row p.picture.width p.picture.channels p.samples.now)),
     )
 
-pub add_tap-requires : goal.add_tap-requires
-add_tap-requires c =
-    let p = c.args.self.now.fours.maker.from.pixels in
-    let i = c.loop-tap.invariant in
-    let h = p.picture.height in
-    rw i.1 (
-      next-from (taps h 256 c.args.y) _ _ i.0 c.in-Some.tap _ c.in-Some.ensures.steps h (taps-from h 256 c.args.y c.in-Some.tap p.sized.high),
-      ap length i.2 ∙ length-sum_rows 256 _ _,
-    )
-
 pub loop-tap-preserved : goal.loop-tap-preserved
 loop-tap-preserved c =
     let p = c.args.self.now.fours.maker.from.pixels in
@@ -43,6 +33,16 @@ loop-tap-preserved c =
       next-more (taps p.picture.height 256 c.args.y) _ _ i.0 c.in-Some.tap _ c.in-Some.ensures.steps,
       c.add_tap.ensures.same ∙ i.1,
       (rw i.1 at c.add_tap.ensures.row) ∙ sum_rows-more 256 row c.loop-tap.yielded c.in-Some.tap c.loop-tap.out (row c.in-Some.tap.from) i.2 refl,
+    )
+
+pub add_tap-requires : goal.add_tap-requires
+add_tap-requires c =
+    let p = c.args.self.now.fours.maker.from.pixels in
+    let i = c.loop-tap.invariant in
+    let h = p.picture.height in
+    rw i.1 (
+      next-from (taps h 256 c.args.y) _ _ i.0 c.in-Some.tap _ c.in-Some.ensures.steps h (taps-from h 256 c.args.y c.in-Some.tap p.sized.high),
+      ap length i.2 ∙ length-sum_rows 256 _ _,
     )
 
 pub returns-clause-row : goal.returns-clause-row
