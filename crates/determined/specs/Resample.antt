@@ -5,6 +5,9 @@ use Rattle.determined.specs.Determined.{Determined}
 use Rattle.resample.specs.contracts as resample
 use Rattle.resample.proofs as proved
 
+pub of-tables-one : Determined resample.axis.Taps.of_tables.ended proved.axis.Taps.of_tables.Reads.Post
+of-tables-one κs a x y p q i = (one p q i, x.1)
+
 pub row-one : Determined resample.axis.Taps.row.ended proved.axis.Taps.row.Reads.Post
 row-one κs a x y p q i = (tt, (tt, (tt, (one p q i, tt))))
 

@@ -4,6 +4,7 @@ ghost use Rattle.std.specs.Float.{nan};
 ghost use Rattle.seq.specs.Lists.{tab};
 ghost use Rattle.resample_window.specs.Window.{start, taps, tap_sources, tap_weights};
 ghost use Rattle.resample.specs.Resampled.{across};
+ghost use Rattle.resample.specs.Tables.{Tables};
 
 use resample_window::taps;
 use std::marker::Model;
@@ -41,6 +42,27 @@ impl<'a> Model for Taps<'a> {
 }
 
 impl<'a> Taps<'a> {
+    // Of tables that stand in lists of one's own.
+    pub fn of_tables(
+        src: usize,
+        dst: usize,
+        offsets: &'a [u16],
+        index: &'a [u16],
+        weight: &'a [f32],
+    ) -> Taps<'a>
+        requires { Tables src dst offsets.now index.now weight.now }
+        ensures { result ≡ record { src = src; dst = dst } }
+    {
+        Taps {
+            src,
+            dst,
+            offsets,
+            index,
+            weight,
+        }
+    }
+
+    // Of tables that are made in the room.
     pub fn new<const N: usize>(src: usize, dst: usize, room: &'a mut TapRoom<N>) -> Taps<'a>
         requires { (0 < src) × (src ≤ 8192) × (dst ≤ 8192) × (dst < N) × (start src dst dst ≤ 16384) }
         ensures { result ≡ record { src = src; dst = dst } }
@@ -51,13 +73,7 @@ impl<'a> Taps<'a> {
             weight,
         } = room;
         taps(src, dst, offsets, index, weight);
-        Taps {
-            src,
-            dst,
-            offsets,
-            index,
-            weight,
-        }
+        Taps::of_tables(src, dst, offsets, index, weight)
     }
 
     // The source numbers of output sample x, which lie in the source, and their weights.

@@ -5,11 +5,25 @@ ghost use Rattle.seq.specs.Lists.{tab};
 ghost use Rattle.resample.specs.Samples.{luma_from};
 ghost use Rattle.resample_four.specs.Four.{share_at};
 
+use std::marker::Model;
+
 // What each byte adds to the luma as a red sample, then as a green one, then as a blue one.
 #[derive(Drop)]
 pub struct Shares {
     products: [f32; 768],
-    ghost made: { products ≡ tab share_at 768 },
+}
+
+// A contract sees the products.
+impl Model for Shares {
+    ghost use Rattle.std.specs.Prelude.{◌≡◌, List, Float};
+    ghost use Rattle.seq.specs.Lists.{tab};
+    ghost use Rattle.resample_four.specs.Four.{share_at};
+
+    ghost Value = { List Float };
+
+    ghost view = { λ s. s.products };
+
+    ghost invariant = { λ s. s.products ≡ tab share_at 768 };
 }
 
 fn products() -> [f32; 768]
@@ -24,7 +38,10 @@ fn products() -> [f32; 768]
 }
 
 impl Shares {
-    pub fn new() -> Shares {
+    // The products, made once for a picture.
+    pub fn new() -> Shares
+        ensures { result ≡ tab share_at 768 }
+    {
         Shares {
             products: products(),
         }
@@ -32,7 +49,7 @@ impl Shares {
 
     fn share(&self, at: usize, v: u8) -> f32
         requires { at ≤ 512 }
-        ensures { result ≡ get_or self.now.products (at + v) nan }
+        ensures { result ≡ get_or (tab share_at 768) (at + v) nan }
     {
         self.products[at + usize::from(v)]
     }

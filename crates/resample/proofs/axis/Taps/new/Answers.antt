@@ -3,8 +3,8 @@ use Rattle.std.proofs.Common.{arith}
 use Rattle.resample.specs.Taps.{tables-made}
 use Rattle.resample.proofs.axis.Taps.new.Goals as goal
 
-pub invariant_of-result : goal.invariant_of-result
-invariant_of-result g c =
+pub of_tables-requires : goal.of_tables-requires
+of_tables-requires g c =
     let a = c.args in
     let r = a.room.now in
     let made = c.taps in
