@@ -58,6 +58,7 @@ pub fn quarter_rounds(rt: &impl Print) -> io::Result<()> {
     report(rt, "rfc 8439 2.2.1", words == expected)
 }
 
+// A call for each vector, here and below: a list of them with a loop is hardly shorter, and needs pairs for the messages.
 pub fn blocks(rt: &impl Print) -> io::Result<()> {
     Vector {
         name: "rfc 8439 2.3.2",

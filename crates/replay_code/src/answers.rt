@@ -9,7 +9,9 @@ use std::rt::Files;
 // Whether a byte has the bits, from its highest on.
 fn has_bits(byte: u8, bits: &[u8]) -> bool {
     let masks = [0x80, 0x40, 0x20, 0x10, 8, 4, 2, 1];
-    bits.iter().zip(masks).all(|(bit, mask)| *bit == u8::from(byte & mask != 0))
+    bits.iter()
+        .zip(masks)
+        .all(|(bit, mask)| *bit == u8::from(byte & mask != 0))
 }
 
 fn same_coded(coded: &[u8; CODED], packed: &[u8; 94]) -> bool {
