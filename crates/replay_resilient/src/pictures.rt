@@ -16,13 +16,16 @@ fn text() -> Text {
     Text::new(TEXT)
 }
 
+fn unmarked() -> Result<Text, Refusal> {
+    Err(Refusal::NoWatermark)
+}
+
 // Pictures of a few pixels have all the blocks, and no mark in them.
 fn small(t: &mut Tally, s: &Samples, w: &mut Work) {
-    let none = Err(Refusal::NoWatermark);
-    t.count(reads(&s[..3], w, shape(1, 1, 3), none));
-    t.count(reads(&s[..24], w, shape(2, 3, 4), none));
-    t.count(reads(&s[..768], w, shape(16, 16, 3), none));
-    t.count(reads(&s[..1024], w, shape(16, 16, 4), none));
+    t.count(reads(&s[..3], w, shape(1, 1, 3), unmarked()));
+    t.count(reads(&s[..24], w, shape(2, 3, 4), unmarked()));
+    t.count(reads(&s[..768], w, shape(16, 16, 3), unmarked()));
+    t.count(reads(&s[..1024], w, shape(16, 16, 4), unmarked()));
 }
 
 // Only the bits of the mask are left of each sample.
@@ -39,7 +42,7 @@ fn damaged(t: &mut Tally, samples: &mut Samples, w: &mut Work) {
     coarsen(s, 0xc0);
     t.count(reads(s, w, square(3), Ok(text())));
     coarsen(s, 0x80);
-    t.count(reads(s, w, square(3), Err(Refusal::NoWatermark)));
+    t.count(reads(s, w, square(3), unmarked()));
 }
 
 pub fn pictures(samples: &mut Samples, work: &mut Work) -> Tally {
