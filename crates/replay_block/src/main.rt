@@ -10,14 +10,12 @@ use replay_lists::cases::Fields;
 use replay_lists::stored::{Packed, floats, same};
 use std::io;
 
-fn forward(block: [f32; 64]) -> [f32; 64] {
-    let mut values = block;
+fn forward(mut values: [f32; 64]) -> [f32; 64] {
     Transform::new().forward(&mut values);
     values
 }
 
-fn inverse(block: [f32; 64]) -> [f32; 64] {
-    let mut values = block;
+fn inverse(mut values: [f32; 64]) -> [f32; 64] {
     Transform::new().inverse(&mut values);
     values
 }
@@ -73,10 +71,10 @@ fn votes(mut case: Fields<'_>) -> Option<bool> {
 }
 
 fn main(rt: HostRuntime) -> io::Result<()> {
-    replay_lists::replay(&rt, "forward.txt", "forward.txt", 2, forwards)?;
-    replay_lists::replay(&rt, "inverse.txt", "inverse.txt", 2, inverses)?;
-    replay_lists::replay(&rt, "mark.txt", "mark.txt", 2, marks)?;
-    replay_lists::replay(&rt, "vote.txt", "vote.txt", 2, votes)?;
-    replay_lists::replay(&rt, "load.txt", "load.txt", 2, places::loads)?;
-    replay_lists::replay(&rt, "store.txt", "store.txt", 2, places::stores)
+    replay_lists::replay(&rt, "forward.txt", 2, forwards)?;
+    replay_lists::replay(&rt, "inverse.txt", 2, inverses)?;
+    replay_lists::replay(&rt, "mark.txt", 2, marks)?;
+    replay_lists::replay(&rt, "vote.txt", 2, votes)?;
+    replay_lists::replay(&rt, "load.txt", 2, places::loads)?;
+    replay_lists::replay(&rt, "store.txt", 2, places::stores)
 }

@@ -6,7 +6,7 @@ use replay_lists::cases::Fields;
 use replay_lists::stored::same;
 
 fn number_of(place: usize) -> f32 {
-    (place % 65536) as u16 as f32
+    f32::from((place % PLANE) as u16)
 }
 
 // Value k of the block that is stored, which no place holds before.

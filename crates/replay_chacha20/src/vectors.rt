@@ -38,11 +38,11 @@ impl Vector<'_> {
     fn is_message(&self, text: &mut [u8], message: &[u8], expected: &[u8]) -> Option<bool> {
         let key = array(self.key)?;
         let nonce = array(self.nonce)?;
-        let mut wanted = [0; 4096];
-        let count = Fields::of(expected).bytes(&mut wanted)?;
+        let mut room = [0; 4096];
+        let expected = Fields::of(expected).bytes(&mut room)?;
         let from = 64 * u64::from(self.counter);
         let next = apply(&key, &nonce, from, text)?;
-        let is_encrypted = &*text == &wanted[..count];
+        let is_encrypted = &*text == expected;
         apply(&key, &nonce, from, text)?;
         Some(is_encrypted && &*text == message && next == from + message.len() as u64)
     }
@@ -58,6 +58,7 @@ pub fn quarter_rounds(rt: &impl Print) -> io::Result<()> {
     report(rt, "rfc 8439 2.2.1", words == expected)
 }
 
+// A call for each vector, here and below: a list of them with a loop is hardly shorter, and needs pairs for the messages.
 pub fn blocks(rt: &impl Print) -> io::Result<()> {
     Vector {
         name: "rfc 8439 2.3.2",
@@ -141,7 +142,7 @@ pub fn messages(rt: &(impl Print + AllocGlobal)) -> io::Result<()> {
     }
     .replay_message(
         rt,
-        &[0u8; 64],
+        &[0; 64],
         b"76b8e0ada0f13d90405d6ae55386bd28bdd219b8a08ded1aa836efcc8b770dc7da41597c5157488d7724e03fb8d84a376a43b8f41518a11cc387b669b2ee6586",
     )?;
     Vector {

@@ -22,7 +22,7 @@ fn single_faults(bytes: &[u8; RECORD], fate: f32) -> Tally {
     // By number, since one vote of all is changed at a time.
     for b in 0..BLOCKS {
         let mut votes = whole;
-        votes[b] = votes[b] * fate;
+        votes[b] *= fate;
         tally.count(reads(&votes, bytes));
     }
     tally

@@ -20,7 +20,7 @@ fn one<F: Fn(u64) -> u64>(
 ) -> io::Result<()>
     requires { F.IsAlwaysCallable call }
 {
-    replay_lists::replay(rt, name, name, 2, |mut case: Fields<'_>| {
+    replay_lists::replay(rt, name, 2, |mut case: Fields<'_>| {
         let x = case.number()?;
         Some(call(x) == case.number()?)
     })
@@ -34,7 +34,7 @@ fn two<F: Fn(u64, u64) -> u64>(
 ) -> io::Result<()>
     requires { F.IsAlwaysCallable call }
 {
-    replay_lists::replay(rt, name, name, 3, |mut case: Fields<'_>| {
+    replay_lists::replay(rt, name, 3, |mut case: Fields<'_>| {
         let x = case.number()?;
         let y = case.number()?;
         Some(call(x, y) == case.number()?)

@@ -9,6 +9,7 @@ use encoder::CODED;
 use picture::BLOCKS;
 use replay_lists::cases::Fields;
 use replay_lists::stored::{Packed, floats};
+use std::array::from_fn;
 use std::io;
 
 // Whether the bytes are just the entries.
@@ -20,16 +21,6 @@ fn same_entries(entries: &[u16], bytes: &[u8]) -> bool {
             .iter()
             .zip(pairs)
             .all(|(entry, pair)| *entry == u16::from_be_bytes(*pair))
-}
-
-// The lower or the higher byte of each coded bit's number, in the place of its bit.
-fn numbers(high: bool) -> [u8; CODED] {
-    let mut coded = [0; CODED];
-    for (k, bit) in coded.iter_mut().enumerate() {
-        let byte = if high { k / 256 } else { k };
-        *bit = (byte & 0xff) as u8;
-    }
-    coded
 }
 
 // Whether the block of each place, as listed, carries what stands for the place's coded bit.
@@ -50,8 +41,8 @@ fn lays(mut case: Fields<'_>) -> Option<bool> {
     Some(
         found == BLOCKS
             && same_entries(&made, &blocks)
-            && carries(&blocks, &numbers(false))
-            && carries(&blocks, &numbers(true)),
+            && carries(&blocks, &from_fn(|k: usize| (k % 256) as u8))
+            && carries(&blocks, &from_fn(|k: usize| (k / 256) as u8)),
     )
 }
 
@@ -70,13 +61,12 @@ fn shuffles(mut case: Fields<'_>) -> Option<bool> {
     let len = operand.number()? as usize;
     let count = operand.number()? as usize;
     let lent = usize::from(operand.pair()?);
-    let mut expected = [0; 8202];
-    let size = case.bytes(&mut expected)?;
-    let mut expected = Packed::of(&expected[..size]);
+    let mut room = [0; 8202];
+    let mut expected = Packed::of(case.bytes(&mut room)?);
     let mut places = [43690; 4100];
     let places = places.get_mut(..lent)?;
     let found = shuffle::shuffle(&key, len, count, places);
-    Some(found as u64 == u64::from(expected.pair()?) && same_entries(places, expected.rest()))
+    Some(found == usize::from(expected.pair()?) && same_entries(places, expected.rest()))
 }
 
 // A number drawn and the range, and 1 where it is taken.
@@ -88,8 +78,8 @@ fn accepts(mut case: Fields<'_>) -> Option<bool> {
 }
 
 fn main(rt: HostRuntime) -> io::Result<()> {
-    replay_lists::replay(&rt, "layout.txt", "layout.txt", 2, lays)?;
-    replay_lists::replay(&rt, "dither.txt", "dither.txt", 2, dithers)?;
-    replay_lists::replay(&rt, "shuffle.txt", "shuffle.txt", 2, shuffles)?;
-    replay_lists::replay(&rt, "accepted.txt", "accepted.txt", 2, accepts)
+    replay_lists::replay(&rt, "layout.txt", 2, lays)?;
+    replay_lists::replay(&rt, "dither.txt", 2, dithers)?;
+    replay_lists::replay(&rt, "shuffle.txt", 2, shuffles)?;
+    replay_lists::replay(&rt, "accepted.txt", 2, accepts)
 }

@@ -1,5 +1,5 @@
 -- What the contracts say of fields. Definitions only.
-use Rattle.std.specs.Prelude.{◌≡◌, ℕ, ◌≤◌, ◌<◌, ◌++◌, List, length, take, Option, MatchOption}
+use Rattle.std.specs.Prelude.{◌≡◌, ℕ, ◌<◌, ◌++◌, List, length, Option, MatchOption}
 use denote.Ref.{Bor}
 
 -- `rest` is what is left of the text behind some part of it
@@ -10,7 +10,3 @@ IsPartBehind text rest = (passed : List ℕ) × (text ≡ passed ++ rest)
 abbrev pub IsNextField : List ℕ → Option (Bor (List ℕ)) → List ℕ → Type 0
 IsNextField text found rest =
     MatchOption found (length rest ≡ 0) (λ field. (0 < length field.now) × IsPartBehind text (field.now ++ rest))
-
--- the bytes have a first part of n: that it is in bounds follows from its length, and the other way round, and spares a proof
-abbrev pub IsPrefixLen : ℕ → List ℕ → Type 0
-IsPrefixLen n xs = (n ≤ length xs) × (n ≡ length (take n xs))

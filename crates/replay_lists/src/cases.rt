@@ -1,7 +1,7 @@
 // The fields of a text, what they hold, and its cases.
-ghost use Rattle.std.specs.Prelude.{length, IfSome};
+ghost use Rattle.std.specs.Prelude.{◌≤◌, length, IfSome};
 ghost use Rattle.std.specs.Iterator.{at_most};
-ghost use Rattle.replay_lists.specs.Fields.{IsNextField, IsPartBehind, IsPrefixLen};
+ghost use Rattle.replay_lists.specs.Fields.{IsNextField, IsPartBehind};
 
 use crate::hex::{hex_bytes, hex_number};
 
@@ -36,19 +36,17 @@ impl<'a> Fields<'a> {
         Fields { rest: text }
     }
 
-    // The next field as a string of bytes, which goes to the start of `bytes`: how many they are. None where the field is no
+    // The next field as a string of bytes, which goes to the start of `room`: the part that it fills. None where the field is no
     // such string, or has no room there. Past the text's end a field has no bytes.
-    pub fn bytes(&mut self, bytes: &mut [u8]) -> Option<usize>
-        ensures { IfSome result (λ count. IsPrefixLen count bytes.new) }
+    pub fn bytes<'b>(&mut self, room: &'b mut [u8]) -> Option<&'b [u8]>
+        ensures { IfSome result (λ part. length part.now ≤ length room.old) }
     {
-        hex_bytes(self.next().unwrap_or(&[]), bytes)
+        hex_bytes(self.next().unwrap_or(&[]), room)
     }
 
     // The next field as a string of just N bytes.
     pub fn array<const N: usize>(&mut self) -> Option<[u8; N]> {
-        let mut bytes = [0; N];
-        let count = self.bytes(&mut bytes)?;
-        if count == N { Some(bytes) } else { None }
+        self.bytes(&mut [0; N])?.try_into().ok()
     }
 
     // The next field as a number of at most sixteen digits.

@@ -1,23 +1,22 @@
 // Fields in hexadecimal.
-ghost use Rattle.std.specs.Prelude.{◌<◌, IfSome};
-ghost use Rattle.replay_lists.specs.Fields.{IsPrefixLen};
+ghost use Rattle.std.specs.Prelude.{◌≤◌, ◌<◌, length, IfSome};
 
-// The field as a string of bytes, which goes to the start of `bytes`: how many they are. None where the field is no such
+// The field as a string of bytes, which goes to the start of `room`: the part that it fills. None where the field is no such
 // string, or has no room there.
-pub(crate) fn hex_bytes(field: &[u8], bytes: &mut [u8]) -> Option<usize>
-    ensures { IfSome result (λ count. IsPrefixLen count bytes.new) }
+pub(crate) fn hex_bytes<'a>(field: &[u8], room: &'a mut [u8]) -> Option<&'a [u8]>
+    ensures { IfSome result (λ part. length part.now ≤ length room.old) }
 {
     if field == b"-".as_slice() {
-        return Some(0);
+        return Some(&[]);
     }
     let (pairs, odd) = field.as_chunks::<2>();
-    if !odd.is_empty() || bytes.len() < pairs.len() {
+    if !odd.is_empty() || room.len() < pairs.len() {
         return None;
     }
-    for (byte, [high, low]) in bytes.iter_mut().zip(pairs) {
+    for (byte, [high, low]) in room.iter_mut().zip(pairs) {
         *byte = digit(*high)? * 16 + digit(*low)?;
     }
-    Some(pairs.len())
+    Some(&room[..pairs.len()])
 }
 
 // The field as a number of at most sixteen digits.
@@ -32,7 +31,7 @@ pub(crate) fn hex_number(field: &[u8]) -> Option<u64> {
     Some(value)
 }
 
-// The value of a digit.
+// The value of a digit. The library's `to_digit` and `from_str_radix` take capitals too, which no list has.
 fn digit(byte: u8) -> Option<u8>
     ensures { IfSome result (λ value. value < 16) }
 {

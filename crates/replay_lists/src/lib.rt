@@ -1,6 +1,7 @@
 // Lists of stored cases, which the replay programs compare with: text in lines, where a line that begins with # says what the
 // list is and each other line is a case, of fields with a space between them. A field is a number or a string of bytes in
 // hexadecimal, or - for no bytes. A program replays a list by a closure that says of one case whether it agrees.
+// Only `main` may take the `HostRuntime`: a function below it names by bounds what it uses of the host.
 #![tactic(auto)]
 
 pub mod cases;
@@ -98,8 +99,20 @@ pub fn compare<F: FnMut(Fields<'_>) -> Option<bool>>(cases: Cases<'_>, mut agree
     tally
 }
 
-// Replays the list in the file `path`, of cases of `size` fields, under the name `name`.
+// Replays the list in the file `path`, of cases of `size` fields, under the file's name.
 pub fn replay<F: FnMut(Fields<'_>) -> Option<bool>>(
+    rt: &(impl Files + Print + Eprint + AllocGlobal),
+    path: &str,
+    size: usize,
+    agrees: F,
+) -> io::Result<()>
+    requires { F.IsAlwaysCallable agrees }
+{
+    replay_as(rt, path, path, size, agrees)
+}
+
+// The same under the name `name`.
+pub fn replay_as<F: FnMut(Fields<'_>) -> Option<bool>>(
     rt: &(impl Files + Print + Eprint + AllocGlobal),
     path: &str,
     name: &str,
@@ -110,4 +123,18 @@ pub fn replay<F: FnMut(Fields<'_>) -> Option<bool>>(
 {
     let text = load(rt, path)?;
     compare(Cases::of(&text, size), agrees).report(rt, name)
+}
+
+// The same where a case counts only with all its fields.
+pub fn replay_whole<F: FnMut(Fields<'_>) -> Option<bool>>(
+    rt: &(impl Files + Print + Eprint + AllocGlobal),
+    path: &str,
+    name: &str,
+    size: usize,
+    agrees: F,
+) -> io::Result<()>
+    requires { F.IsAlwaysCallable agrees }
+{
+    let text = load(rt, path)?;
+    compare(Cases::whole(&text, size), agrees).report(rt, name)
 }

@@ -1,7 +1,9 @@
-// Numbers and floats of stored cases: each with its high byte first, and floats by their bits, where every NaN is stored as one
-// pattern.
+// Numbers, floats and answers of stored cases: a number with its high byte first, a float by its bits, where every NaN is stored
+// as one pattern, and an answer by the two numbers that hosts see of it.
 ghost use Rattle.std.specs.Prelude.{◌≡◌, ◌<◌, ◌++◌, length, MatchOption};
+ghost use Rattle.refusal.specs.Numbers.{code_of, given_for};
 
+use refusal::Refusal;
 use std::num::{f32_from_bits_with_nan, f32_to_bits_with_nan};
 
 // What is left of a string of bytes, from which one number after the other is taken.
@@ -66,4 +68,12 @@ pub fn same(values: &[f32], bytes: &[u8]) -> bool {
         && words.len() == values.len()
         && values.iter().zip(words).all(|(x, word)| f32_to_bits_with_nan(*x)
             == u32::from_be_bytes(*word))
+}
+
+// The refusal's number and the number given with it, or zeros for none.
+pub fn told<T>(answer: &Result<T, Refusal>) -> (u64, u64)
+    ensures number { result.0 ≡ code_of answer.now }
+    ensures given { result.1 ≡ given_for answer.now }
+{
+    (u64::from(refusal::code(answer)), refusal::given_for(answer))
 }

@@ -3,41 +3,36 @@
 // list are built.
 #![tactic(auto)]
 
-use record::{Key, Lock, Text};
+use record::{Key, Lock, SIZE, Text};
 use refusal::Refusal;
 use replay_lists::Tally;
-use replay_lists::cases::{Cases, Fields};
+use replay_lists::cases::Fields;
+use replay_lists::stored::told;
 use std::io;
-use std::rt::Files;
-
-// The refusal's number and the number given with it, or zeros for none.
-fn told<T>(answer: &Result<T, Refusal>) -> (u64, u64) {
-    (u64::from(refusal::code(answer)), refusal::given_for(answer))
-}
 
 // A key, or none where the field has no bytes.
 fn key_of(case: &mut Fields<'_>) -> Option<Option<[u8; 32]>> {
-    let mut key = [0; 32];
-    match case.bytes(&mut key)? {
-        0 => Some(None),
-        32 => Some(Some(key)),
-        _ => None,
+    let mut room = [0; 32];
+    let key = case.bytes(&mut room)?;
+    if key.is_empty() {
+        return Some(None);
     }
+    Some(Some(key.try_into().ok()?))
 }
 
 // Text, key, salt; the refusal, the number given, the record. A salt goes with a key.
 fn built(mut case: Fields<'_>) -> Option<bool> {
-    let mut text = [0; 512];
-    let count = case.bytes(&mut text)?;
+    let mut room = [0; 512];
+    let text = case.bytes(&mut room)?;
     let key = key_of(&mut case)?;
     let mut salt = [0; 4];
-    let salted = case.bytes(&mut salt)?;
+    let salted = case.bytes(&mut salt)?.len();
     let refusal = (case.number()?, case.number()?);
     let record = case.array()?;
     let lock = key.map(|key| Lock { key, salt });
-    let answer = record_build::build_record(&text[..count], lock);
+    let answer = record_build::build_record(text, lock);
     let is_salted = salted == if key.is_some() { 4 } else { 0 };
-    Some(is_salted && told(&answer) == refusal && answer.unwrap_or([0; 46]) == record)
+    Some(is_salted && told(&answer) == refusal && answer.unwrap_or([0; SIZE]) == record)
 }
 
 // Record, key; the refusal, the number given, the length, the text with zeros after it.
@@ -50,19 +45,6 @@ fn parsed(mut case: Fields<'_>) -> Option<bool> {
     let answer = record_parse::parse_record(&record, key.map(|bytes| Key { bytes }));
     let text = answer.unwrap_or(Text::empty());
     Some(told(&answer) == refusal && text.len() as u64 == length && text.bytes() == bytes)
-}
-
-// The list in the file `path`. A case counts only with all its six fields.
-fn list<F: Fn(Fields<'_>) -> Option<bool>>(
-    rt: &(impl Files + Print + Eprint + AllocGlobal),
-    path: &str,
-    name: &str,
-    agrees: F,
-) -> io::Result<()>
-    requires { F.IsAlwaysCallable agrees }
-{
-    let text = replay_lists::load(rt, path)?;
-    replay_lists::compare(Cases::whole(&text, 6), agrees).report(rt, name)
 }
 
 // Whether the text is refused as too long, with its own length.
@@ -82,7 +64,7 @@ fn long_texts(rt: &impl Print) -> io::Result<()> {
 }
 
 fn main(rt: HostRuntime) -> io::Result<()> {
-    list(&rt, "build.txt", "build", built)?;
-    list(&rt, "parse.txt", "parse", parsed)?;
+    replay_lists::replay_whole(&rt, "build.txt", "build", 6, built)?;
+    replay_lists::replay_whole(&rt, "parse.txt", "parse", 6, parsed)?;
     long_texts(&rt)
 }

@@ -10,6 +10,7 @@ fn file(rt: &(impl Files + Print + Eprint + AllocGlobal), path: &str) -> io::Res
     rt.write_all(report::say(&bytes).as_slice())
 }
 
+// One call for each file, since the comments between them say what the files are.
 fn main(rt: HostRuntime) -> io::Result<()> {
     // No bytes, one too few and one too many, and votes of zero, of either sign.
     file(&rt, "empty")?;

@@ -12,14 +12,14 @@ mod windows;
 use std::io;
 
 fn main(rt: HostRuntime) -> io::Result<()> {
-    replay_lists::replay(&rt, "window.txt", "window.txt", 2, windows::is_window)?;
-    replay_lists::replay(&rt, "weight.txt", "weight.txt", 2, windows::is_weight)?;
-    replay_lists::replay(&rt, "luma.txt", "luma.txt", 2, windows::is_luma)?;
+    replay_lists::replay(&rt, "window.txt", 2, windows::is_window)?;
+    replay_lists::replay(&rt, "weight.txt", 2, windows::is_weight)?;
+    replay_lists::replay(&rt, "luma.txt", 2, windows::is_luma)?;
     let mut samples = [0; pictures::ROOM];
-    replay_lists::replay(&rt, "plane.txt", "plane.txt", 2, |case| {
+    replay_lists::replay(&rt, "plane.txt", 2, |case| {
         pictures::is_part(case, &mut samples)
     })?;
-    replay_lists::replay(&rt, "change.txt", "change.txt", 2, |case| {
+    replay_lists::replay(&rt, "change.txt", 2, |case| {
         pictures::is_changed(case, &mut samples)
     })
 }

@@ -47,10 +47,10 @@ fn drawn<'a>(picture: Picture, pattern: &[u8], samples: &'a mut [u8; ROOM]) -> O
 
 // A picture, a place in the plane, and the pattern; the 64 values of the plane from this place on.
 pub fn is_part(mut case: Fields<'_>, samples: &mut [u8; ROOM]) -> Option<bool> {
-    let mut operand = [0; 4096];
-    let count = case.bytes(&mut operand)?;
+    let mut room = [0; 4096];
+    let operand = case.bytes(&mut room)?;
     let expected = case.array::<256>()?;
-    let mut operand = Packed::of(&operand[..count]);
+    let mut operand = Packed::of(operand);
     let picture = picture_of(&mut operand, 1, LONGEST)?;
     let place = usize::from(operand.pair()?);
     let pattern = operand.rest();
@@ -73,10 +73,10 @@ fn fill(change: &mut [f32], values: &[[u8; 4]]) {
 // A picture, a place in the samples, the number of values of the change, the values and the pattern; the 64 samples from this
 // place on.
 pub fn is_changed(mut case: Fields<'_>, samples: &mut [u8; ROOM]) -> Option<bool> {
-    let mut operand = [0; 4096];
-    let count = case.bytes(&mut operand)?;
+    let mut room = [0; 4096];
+    let operand = case.bytes(&mut room)?;
     let expected = case.array::<64>()?;
-    let mut operand = Packed::of(&operand[..count]);
+    let mut operand = Packed::of(operand);
     let picture = picture_of(&mut operand, 256, LONGEST_CHANGED)?;
     let place = operand.word()? as usize;
     let values = 4 * usize::from(operand.byte()?);

@@ -51,7 +51,7 @@ pub fn is_weight(mut case: Fields<'_>) -> Option<bool> {
     )
 }
 
-// The luma of a row, a value for each pixel.
+// The luma of a row, a value for each pixel. `comparison` has the same lines: nothing below both wants a whole row's.
 fn luma(row: &[u8], channels: usize, out: &mut [f32])
     requires { (3 ≤ channels) × (channels ≤ 4) × (length row.now ≡ length out.old * channels) }
 {
@@ -63,17 +63,16 @@ fn luma(row: &[u8], channels: usize, out: &mut [f32])
 
 // Channels and the samples of a row; the luma of its pixels.
 pub fn is_luma(mut case: Fields<'_>) -> Option<bool> {
-    let mut operand = [0; 4096];
-    let count = case.bytes(&mut operand)?;
-    let mut expected = [0; 256];
-    let to = case.bytes(&mut expected)?;
-    let (channels, row) = operand[..count].split_first()?;
+    let mut room = [0; 4096];
+    let (channels, row) = case.bytes(&mut room)?.split_first()?;
+    let mut room = [0; 256];
+    let expected = case.bytes(&mut room)?;
     let channels = usize::from(*channels);
     let mut values = [0.0; 64];
-    let values = values.get_mut(..to / 4)?;
-    if channels < 3 || 4 < channels || row.len() != values.len() * channels {
+    let values = values.get_mut(..expected.len() / 4)?;
+    if !(3..=4).contains(&channels) || row.len() != values.len() * channels {
         return None;
     }
     luma(row, channels, values);
-    Some(same(values, &expected[..to]))
+    Some(same(values, expected))
 }

@@ -1,7 +1,5 @@
-// The memory that is lent: with something in it, which is looked at after each call, the samples by their CRC-32, the work area,
+// The memory that is lent. It has something in it, which is looked at after each call: the samples by their CRC-32, the work area,
 // which has room to spare, place by place.
-ghost use Rattle.std.specs.Prelude.{◌≤◌};
-
 use crc32::crc32;
 use picture::Picture;
 use record::Text;
@@ -21,21 +19,14 @@ pub type Samples = [u8; FOUR];
 
 pub type Work = [f32; PLACES];
 
-// Whether writing is refused so, where the first `n` samples and `m` places of the work area are lent, and these stay as they
-// were.
+// Whether writing is refused so, and the samples and the work area stay as they were lent.
 pub fn refuses_to_write(
-    samples: &mut Samples,
-    n: usize,
-    work: &mut Work,
-    m: usize,
+    samples: &mut [u8],
+    work: &mut [f32],
     picture: Picture,
     text: &[u8],
     refusal: Refusal,
-) -> bool
-    requires { (n ≤ 1048576) × (m ≤ 655424) }
-{
-    let samples = &mut samples[..n];
-    let work = &mut work[..m];
+) -> bool {
     lend(work);
     let before = crc32(samples);
     let answer = resilient::write(samples, picture, text, None, work);
@@ -45,14 +36,10 @@ pub fn refuses_to_write(
 // The same of reading.
 pub fn refuses_to_read(
     samples: &[u8],
-    work: &mut Work,
-    m: usize,
+    work: &mut [f32],
     picture: Picture,
     refusal: Refusal,
-) -> bool
-    requires { m ≤ 655424 }
-{
-    let work = &mut work[..m];
+) -> bool {
     lend(work);
     let answer = resilient::read(samples, picture, None, work);
     answer == Err(refusal) && is_as_lent(work)

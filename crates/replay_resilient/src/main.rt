@@ -15,6 +15,7 @@ use picture::Picture;
 use std::io;
 use std::rt::Files;
 
+// Short, since a line of the limits names a picture and all that is said of it.
 fn shape(width: usize, height: usize, channels: usize) -> Picture {
     Picture {
         width,

@@ -4,30 +4,23 @@ ghost use Rattle.std.specs.Prelude.{◌≤◌};
 use crate::lent::{FOUR, Samples, THREE, Work, draw, is_as_lent, is_used, lend};
 use crate::square;
 use crc32::crc32;
-use record::{Key, Lock, Text};
-use refusal::Refusal;
-use replay_lists::cases::{Cases, Fields};
+use record::{Key, Lock};
+use replay_lists::cases::Fields;
+use replay_lists::stored::told;
 use std::io;
 use std::rt::Files;
 
 // The fields of a case, in their order: a text written with key and salt, what was said, the samples' CRC-32 after it; the key
 // to read with, what was said.
 #[derive(Clone, Copy)]
-struct Case {
+struct Case<'a> {
     channels: usize,
-    text: [u8; 64],
-    length: usize,
+    text: &'a [u8],
     lock: Option<Lock>,
     written: (u64, u64),
     crc: u64,
     key: Option<Key>,
     read: (u64, u64),
-    ghost in_text: { length ≤ 64 },
-}
-
-// The refusal's number and the number given with it, or zeros for none.
-fn told<T>(answer: &Result<T, Refusal>) -> (u64, u64) {
-    (u64::from(refusal::code(answer)), refusal::given_for(answer))
 }
 
 // A key, or none where the field is not one.
@@ -45,11 +38,10 @@ fn lock_of(fields: &mut Fields<'_>) -> Option<Lock> {
     Some(Lock { key: bytes, salt })
 }
 
-// None where a field is not what it has to be.
-fn case_of(mut fields: Fields<'_>) -> Option<Case> {
+// None where a field is not what it has to be. The text goes into the room.
+fn case_of<'a>(mut fields: Fields<'_>, room: &'a mut [u8; 64]) -> Option<Case<'a>> {
     let channels = fields.number()? as usize;
-    let mut text = [0; 64];
-    let length = fields.bytes(&mut text)?;
+    let text = fields.bytes(room)?;
     let lock = lock_of(&mut fields);
     let written = (fields.number()?, fields.number()?);
     let crc = fields.number()?;
@@ -58,7 +50,6 @@ fn case_of(mut fields: Fields<'_>) -> Option<Case> {
     Some(Case {
         channels,
         text,
-        length,
         lock,
         written,
         crc,
@@ -73,16 +64,10 @@ fn samples_in(channels: usize) -> usize
     if channels == 4 { FOUR } else { THREE }
 }
 
-// Whether the text was read that was to be written.
-fn is_read(found: Text, text: &[u8; 64], length: usize) -> bool {
-    found.len() == length && found.bytes().as_slice() == &text[..32]
-}
-
 // Whether the text is written as it is stored, or refused, and the work area used or not.
-fn writes(case: &Case, samples: &mut [u8], work: &mut Work) -> bool {
+fn writes(case: &Case<'_>, samples: &mut [u8], work: &mut Work) -> bool {
     lend(work);
-    let text = &case.text[..case.length];
-    let answer = resilient::write(samples, square(case.channels), text, case.lock, work);
+    let answer = resilient::write(samples, square(case.channels), case.text, case.lock, work);
     let is_left = if answer.is_ok() {
         is_used(work)
     } else {
@@ -92,17 +77,17 @@ fn writes(case: &Case, samples: &mut [u8], work: &mut Work) -> bool {
 }
 
 // Whether the picture is read as is stored. The work area is used, whatever the record says.
-fn reads(case: &Case, samples: &[u8], work: &mut Work) -> bool {
+fn reads(case: &Case<'_>, samples: &[u8], work: &mut Work) -> bool {
     lend(work);
     let answer = resilient::read(samples, square(case.channels), case.key, work);
-    let is_right = match answer {
-        Ok(found) => is_read(found, &case.text, case.length),
+    let is_right = match &answer {
+        Ok(found) => found.as_slice() == case.text,
         Err(_) => true,
     };
     is_right && told(&answer) == case.read && is_used(work)
 }
 
-fn agrees(case: &Case, samples: &mut Samples, work: &mut Work) -> bool {
+fn agrees(case: &Case<'_>, samples: &mut Samples, work: &mut Work) -> bool {
     let samples = &mut samples[..samples_in(case.channels)];
     draw(samples);
     writes(case, samples, work) && reads(case, samples, work)
@@ -115,9 +100,7 @@ pub fn list(
     samples: &mut Samples,
     work: &mut Work,
 ) -> io::Result<()> {
-    let text = replay_lists::load(rt, name)?;
-    let tally = replay_lists::compare(Cases::whole(&text, 10), |fields| {
-        Some(agrees(&case_of(fields)?, samples, work))
-    });
-    tally.report(rt, name)
+    replay_lists::replay_whole(rt, name, name, 10, |fields| {
+        Some(agrees(&case_of(fields, &mut [0; 64])?, samples, work))
+    })
 }

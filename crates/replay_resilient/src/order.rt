@@ -1,49 +1,49 @@
 // Where two neighbouring refusals apply at once, the first is given.
 use crate::lent::{Samples, THREE, Work, refuses_to_read, refuses_to_write};
-use crate::limits::may_write;
 use crate::{shape, square};
+use admission::may_write;
 use refusal::Refusal;
 use replay_lists::Tally;
 
 // 1 and 2 at once, 2 and 3.
 fn text_order(t: &mut Tally, s: &mut Samples, w: &mut Work) {
     let long = Refusal::TextTooLong(33);
-    t.count(refuses_to_write(s, THREE, w, 655360, square(3), &[0xff; 33], long));
+    t.count(refuses_to_write(&mut s[..THREE], &mut w[..655360], square(3), &[0xff; 33], long));
     let bytes = Refusal::TextNotUtf8;
     let narrow = shape(511, 512, 3);
-    t.count(refuses_to_write(s, 784896, w, 654336, narrow, b"\xff", bytes));
+    t.count(refuses_to_write(&mut s[..784896], &mut w[..654336], narrow, b"\xff", bytes));
 }
 
 // 3 and 4, 4 and 5, of pictures for which there is no room.
 fn large_order(t: &mut Tally) {
     let small = Err(Refusal::ImageTooSmall(511));
-    may_write(t, shape(511, 8193, 3), 12559869, 8504318, small);
+    t.count(may_write(shape(511, 8193, 3), 12559869, 8504318) == small);
     let large = Err(Refusal::ImageTooLarge(8193));
-    may_write(t, shape(8193, 512, 2), 8389632, 8520704, large);
+    t.count(may_write(shape(8193, 512, 2), 8389632, 8520704) == large);
 }
 
 // 5 and 6, 6 and 7.
 fn write_order(t: &mut Tally, s: &mut Samples, w: &mut Work) {
     let channels = Refusal::BadChannels(2);
-    t.count(refuses_to_write(s, 524287, w, 655360, square(2), b"", channels));
+    t.count(refuses_to_write(&mut s[..524287], &mut w[..655360], square(2), b"", channels));
     let length = Refusal::BadLength(786431);
-    t.count(refuses_to_write(s, 786431, w, 655359, square(3), b"", length));
+    t.count(refuses_to_write(&mut s[..786431], &mut w[..655359], square(3), b"", length));
 }
 
 // 8 for a zero side and 4, 4 and 5.
 fn side_order(t: &mut Tally, s: &Samples, w: &mut Work) {
     let none = Refusal::NoWatermark;
-    t.count(refuses_to_read(&[], w, 65536, shape(0, 8193, 3), none));
+    t.count(refuses_to_read(&[], &mut w[..65536], shape(0, 8193, 3), none));
     let large = Refusal::ImageTooLarge(8193);
-    t.count(refuses_to_read(&s[..16386], w, 73729, shape(8193, 1, 2), large));
+    t.count(refuses_to_read(&s[..16386], &mut w[..73729], shape(8193, 1, 2), large));
 }
 
 // 5 and 6, 6 and 7.
 fn read_order(t: &mut Tally, s: &Samples, w: &mut Work) {
     let channels = Refusal::BadChannels(2);
-    t.count(refuses_to_read(&s[..3], w, 65537, shape(1, 1, 2), channels));
+    t.count(refuses_to_read(&s[..3], &mut w[..65537], shape(1, 1, 2), channels));
     let length = Refusal::BadLength(4);
-    t.count(refuses_to_read(&s[..4], w, 65536, shape(1, 1, 3), length));
+    t.count(refuses_to_read(&s[..4], &mut w[..65536], shape(1, 1, 3), length));
 }
 
 pub fn order(samples: &mut Samples, work: &mut Work) -> Tally {

@@ -14,14 +14,13 @@ fn answer(bytes: &[u8]) -> u64 {
 
 // A string of at most eight bytes, and the answer for it.
 fn agrees(mut case: Fields<'_>) -> Option<bool> {
-    let mut bytes = [0; 8];
-    let count = case.bytes(&mut bytes)?;
-    let expected = case.number()?;
-    Some(answer(&bytes[..count]) == expected)
+    let mut room = [0; 8];
+    let bytes = case.bytes(&mut room)?;
+    Some(answer(bytes) == case.number()?)
 }
 
 fn main(rt: HostRuntime) -> io::Result<()> {
     short::replay(&rt, "short.txt")?;
-    replay_lists::replay(&rt, "edges.txt", "edges.txt", 2, agrees)?;
-    replay_lists::replay(&rt, "neighbours.txt", "neighbours.txt", 2, agrees)
+    replay_lists::replay(&rt, "edges.txt", 2, agrees)?;
+    replay_lists::replay(&rt, "neighbours.txt", 2, agrees)
 }

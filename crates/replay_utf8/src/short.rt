@@ -32,6 +32,7 @@ pub fn replay(rt: &(impl Files + Print + Eprint + AllocGlobal), name: &str) -> i
     let text = replay_lists::load(rt, name)?;
     let mut words = Fields::of(&text);
     let mut tally = Tally::default();
+    // By number, since words that are not in the list count too.
     for k in 0..2056 {
         compare(k, words.number(), &mut tally);
     }
