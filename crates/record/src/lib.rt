@@ -10,14 +10,33 @@ ghost use Rattle.chacha20.specs.Rfc8439.{encrypted};
 ghost use Rattle.keystream.specs.Apply.{left_at};
 ghost use Rattle.record.specs.Record.{short, size, covered};
 ghost use Rattle.record.specs.Answers.{text_given, padded};
+ghost use Rattle.record.specs.Modes.{mode_of};
 
 use refusal::Refusal;
 use std::marker::Model;
 
-// Byte 0 is the mode.
-pub const PLAIN: u8 = 0x31;
+// How the text stands in a record, in the clear or under a key. Byte 0 says it.
+#[derive(Clone, Copy, PartialEq, Eq, Debug)]
+pub enum Mode {
+    Plain = 0x31,
+    Keyed = 0x32,
+}
 
-pub const KEYED: u8 = 0x32;
+// Refused: a byte that is no mode.
+impl TryFrom<u8> for Mode {
+    type Error = Refusal;
+
+    ghost try_from_gives = { λ byte answer. answer ≡ mode_of byte };
+
+    #[tactic(auto, unfolding(crate::specs::Modes::mode_of))]
+    fn try_from(byte: u8) -> Result<Mode, Refusal> {
+        match byte {
+            0x31 => Ok(Mode::Plain),
+            0x32 => Ok(Mode::Keyed),
+            _ => Err(Refusal::UnsupportedVersion(byte)),
+        }
+    }
+}
 
 // Where the parts start, and the room for text.
 pub const SALT: usize = 1;
@@ -117,10 +136,7 @@ impl Text {
 pub fn text_given(answer: Result<Text, Refusal>) -> Text
     ensures { result ≡ text_given answer }
 {
-    match answer {
-        Ok(text) => text,
-        Err(_) => Text::empty(),
-    }
+    answer.unwrap_or(Text::empty())
 }
 
 // The keystream put onto the bytes from its start. It has as many bytes, so that it never ends too early.
