@@ -10,6 +10,7 @@ ghost use Rattle.chacha20.specs.Rfc8439.{encrypted};
 ghost use Rattle.keystream.specs.Apply.{left_at};
 ghost use Rattle.record.specs.Record.{short, size, covered};
 ghost use Rattle.record.specs.Answers.{text_given, padded};
+ghost use Rattle.record.specs.Given.{lock_from, key_from};
 ghost use Rattle.record.specs.Modes.{mode_of};
 
 use refusal::Refusal;
@@ -51,19 +52,42 @@ pub const INNER: usize = TEXT + ROOM;
 
 pub const OUTER: usize = INNER + 4;
 
+// `encoder` has it too, as RECORD: the code knows nothing of the record, nor the record of the code.
 pub const SIZE: usize = OUTER + 4;
 
 // What a text is written with: a key, and the salt that goes into the record. A record without a lock is plain.
+// The key's bytes, not a `Key`: the cipher takes bytes, so that a `Key` would be taken apart wherever it is used.
 #[derive(Clone, Copy)]
 pub struct Lock {
     pub key: [u8; 32],
     pub salt: [u8; 4],
 }
 
+impl Lock {
+    // The lock of a key and a salt, if one is asked for.
+    pub fn when(asked: bool, key: &[u8; 32], salt: &[u8; 4]) -> Option<Lock>
+        ensures { result ≡ lock_from asked key.now salt.now }
+    {
+        asked.then_some(Lock {
+            key: *key,
+            salt: *salt,
+        })
+    }
+}
+
 // What a record under a lock is read with.
 #[derive(Clone, Copy)]
 pub struct Key {
     pub bytes: [u8; 32],
+}
+
+impl Key {
+    // The key of these bytes, if one is asked for.
+    pub fn when(asked: bool, bytes: &[u8; 32]) -> Option<Key>
+        ensures { result ≡ key_from asked bytes.now }
+    {
+        asked.then_some(Key { bytes: *bytes })
+    }
 }
 
 // A text of at most 32 bytes, with zeros after it.
@@ -90,6 +114,7 @@ impl Model for Text {
 }
 
 impl Text {
+    // The text of no bytes.
     pub fn empty() -> Text
         ensures { result ≡ [] }
     {
@@ -99,6 +124,7 @@ impl Text {
         }
     }
 
+    // A text of these bytes.
     pub fn new(text: &[u8]) -> Text
         requires { length text.now ≤ short.room }
         ensures { result ≡ text.now }
@@ -111,12 +137,14 @@ impl Text {
         }
     }
 
+    // The text's bytes.
     pub fn as_slice(&self) -> &[u8]
         ensures { result.now ≡ self.now }
     {
         &self.bytes[..self.len]
     }
 
+    // The number of the text's bytes.
     pub fn len(&self) -> usize
         ensures same { result ≡ length self.now }
         ensures within { result ≤ short.room }

@@ -38,9 +38,8 @@ fn lay(text: &[u8], lock: Option<Lock>) -> [u8; SIZE]
     requires { length text.now ≤ short.room }
     ensures { result ≡ laid_out short text.now lock ++ replicate 8 0 }
 {
-    let mut bytes = [0u8; SIZE];
-    let start = head(lock);
-    seq::copy(&start, &mut bytes, 0);
+    let mut bytes = [0; SIZE];
+    seq::copy(&head(lock), &mut bytes, 0);
     bytes[LENGTH] = text.len() as u8;
     seq::copy(text, &mut bytes, TEXT);
     bytes
