@@ -4,8 +4,6 @@ ghost use Rattle.chacha20.specs.Rfc8439.{chacha_block};
 ghost use Rattle.keystream.specs.Apply.{applied_of, bytes_after, applied_number};
 ghost use Rattle.comparison.specs.Cipher.{next_of};
 
-use keystream::{KeystreamEnd, Position};
-
 #[unsafe(no_mangle)]
 pub extern "C" fn vk_chacha20_block(
     key: &[u8; 32],
@@ -32,15 +30,6 @@ pub extern "C" fn vk_chacha20_apply(
 {
     let from = *position;
     let answer = keystream::apply(key, nonce, from, bytes);
-    *position = next_after(from, answer);
+    *position = answer.unwrap_or(from);
     keystream::number(answer)
-}
-
-fn next_after(from: Position, answer: Result<Position, KeystreamEnd>) -> Position
-    ensures { result ≡ next_of from answer }
-{
-    match answer {
-        Ok(p) => p,
-        Err(_) => from,
-    }
 }

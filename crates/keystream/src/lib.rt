@@ -53,7 +53,7 @@ fn encrypt(key: &[u8; 32], nonce: &[u8; 12], from: Position, bytes: &mut [u8])
     ensures { bytes.new ≡ encrypted key.now nonce.now from bytes.old }
 {
     let first = chacha20::first_state(key, nonce);
-    let mut done: usize = 0;
+    let mut done = 0;
     while done < bytes.len() {
         let p = from + done as u64;
         let stream = chacha20::block_from(&first, (p / 64) as u32);
@@ -77,12 +77,13 @@ pub fn apply(
     ensures answer { result ≡ applied_of from (length bytes.old) }
     ensures lent { bytes.new ≡ bytes_after key.now nonce.now from bytes.old }
 {
-    let next = next(from, bytes.len() as u64)?;
+    let after = next(from, bytes.len() as u64)?;
     encrypt(key, nonce, from, bytes);
-    Ok(next)
+    Ok(after)
 }
 
-// The answer as a number: 0, or 14, the number of KeystreamEnd.
+// The answer as a number: 0, or 14, as `refusal` numbers KeystreamEnd. The number stands here once more, since the cipher
+// knows nothing of what a record or a picture is refused for.
 pub fn number(answer: Result<Position, KeystreamEnd>) -> u8
     ensures { result ≡ applied_number answer }
 {

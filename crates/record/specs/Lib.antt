@@ -1,6 +1,7 @@
 pub mod Record
 pub mod Given
 pub mod Answers
+pub mod Modes
 pub mod Laws
 pub mod Held
 pub mod Opened

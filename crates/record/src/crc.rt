@@ -1,4 +1,4 @@
-// Numbers of four bytes, the highest first, and CRC-32 that stand behind the bytes that they are of.
+// Numbers of four bytes, the highest first, and the CRC-32 behind the bytes that it is of.
 ghost use Rattle.std.specs.Prelude.{◌≡◌, ◌++◌, ◌+◌, ◌≤◌, length, take, drop};
 ghost use Rattle.record.specs.Record.{with_crc, intact};
 ghost use Rattle.seq.specs.Bytes.{number_at};

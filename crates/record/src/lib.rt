@@ -10,14 +10,34 @@ ghost use Rattle.chacha20.specs.Rfc8439.{encrypted};
 ghost use Rattle.keystream.specs.Apply.{left_at};
 ghost use Rattle.record.specs.Record.{short, size, covered};
 ghost use Rattle.record.specs.Answers.{text_given, padded};
+ghost use Rattle.record.specs.Given.{lock_from, key_from};
+ghost use Rattle.record.specs.Modes.{mode_of};
 
 use refusal::Refusal;
 use std::marker::Model;
 
-// Byte 0 is the mode.
-pub const PLAIN: u8 = 0x31;
+// How the text stands in a record, in the clear or under a key. Byte 0 says it.
+#[derive(Clone, Copy, PartialEq, Eq, Debug)]
+pub enum Mode {
+    Plain = 0x31,
+    Keyed = 0x32,
+}
 
-pub const KEYED: u8 = 0x32;
+// Refused: a byte that is no mode.
+impl TryFrom<u8> for Mode {
+    type Error = Refusal;
+
+    ghost try_from_gives = { λ byte answer. answer ≡ mode_of byte };
+
+    #[tactic(auto, unfolding(crate::specs::Modes::mode_of))]
+    fn try_from(byte: u8) -> Result<Mode, Refusal> {
+        match byte {
+            0x31 => Ok(Mode::Plain),
+            0x32 => Ok(Mode::Keyed),
+            _ => Err(Refusal::UnsupportedVersion(byte)),
+        }
+    }
+}
 
 // Where the parts start, and the room for text.
 pub const SALT: usize = 1;
@@ -32,19 +52,42 @@ pub const INNER: usize = TEXT + ROOM;
 
 pub const OUTER: usize = INNER + 4;
 
+// `encoder` has it too, as RECORD: the code knows nothing of the record, nor the record of the code.
 pub const SIZE: usize = OUTER + 4;
 
 // What a text is written with: a key, and the salt that goes into the record. A record without a lock is plain.
+// The key's bytes, not a `Key`: the cipher takes bytes, so that a `Key` would be taken apart wherever it is used.
 #[derive(Clone, Copy)]
 pub struct Lock {
     pub key: [u8; 32],
     pub salt: [u8; 4],
 }
 
+impl Lock {
+    // The lock of a key and a salt, if one is asked for.
+    pub fn when(asked: bool, key: &[u8; 32], salt: &[u8; 4]) -> Option<Lock>
+        ensures { result ≡ lock_from asked key.now salt.now }
+    {
+        asked.then_some(Lock {
+            key: *key,
+            salt: *salt,
+        })
+    }
+}
+
 // What a record under a lock is read with.
 #[derive(Clone, Copy)]
 pub struct Key {
     pub bytes: [u8; 32],
+}
+
+impl Key {
+    // The key of these bytes, if one is asked for.
+    pub fn when(asked: bool, bytes: &[u8; 32]) -> Option<Key>
+        ensures { result ≡ key_from asked bytes.now }
+    {
+        asked.then_some(Key { bytes: *bytes })
+    }
 }
 
 // A text of at most 32 bytes, with zeros after it.
@@ -71,6 +114,7 @@ impl Model for Text {
 }
 
 impl Text {
+    // The text of no bytes.
     pub fn empty() -> Text
         ensures { result ≡ [] }
     {
@@ -80,6 +124,7 @@ impl Text {
         }
     }
 
+    // A text of these bytes.
     pub fn new(text: &[u8]) -> Text
         requires { length text.now ≤ short.room }
         ensures { result ≡ text.now }
@@ -92,12 +137,14 @@ impl Text {
         }
     }
 
+    // The text's bytes.
     pub fn as_slice(&self) -> &[u8]
         ensures { result.now ≡ self.now }
     {
         &self.bytes[..self.len]
     }
 
+    // The number of the text's bytes.
     pub fn len(&self) -> usize
         ensures same { result ≡ length self.now }
         ensures within { result ≤ short.room }
@@ -117,10 +164,7 @@ impl Text {
 pub fn text_given(answer: Result<Text, Refusal>) -> Text
     ensures { result ≡ text_given answer }
 {
-    match answer {
-        Ok(text) => text,
-        Err(_) => Text::empty(),
-    }
+    answer.unwrap_or(Text::empty())
 }
 
 // The keystream put onto the bytes from its start. It has as many bytes, so that it never ends too early.

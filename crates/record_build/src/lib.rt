@@ -5,7 +5,7 @@
 ghost use Rattle.std.specs.Prelude.{◌≡◌, ◌++◌, ◌≤◌, length, replicate};
 ghost use Rattle.record.specs.Record.{short, size, locked, head_of, laid_out, record_of, built_of};
 
-use record::{INNER, KEYED, LENGTH, Lock, OUTER, PLAIN, ROOM, SIZE, TEXT, cover, crc};
+use record::{INNER, LENGTH, Lock, Mode, OUTER, ROOM, SIZE, TEXT, cover, crc};
 use refusal::Refusal;
 
 // Length to inner CRC put under the lock's key, if there is one.
@@ -27,9 +27,9 @@ fn head(lock: Option<Lock>) -> [u8; 5]
     match lock {
         Some(lock) => {
             let [a, b, c, d] = lock.salt;
-            [KEYED, a, b, c, d]
+            [Mode::Keyed as u8, a, b, c, d]
         }
-        None => [PLAIN, 0, 0, 0, 0],
+        None => [Mode::Plain as u8, 0, 0, 0, 0],
     }
 }
 
@@ -38,9 +38,8 @@ fn lay(text: &[u8], lock: Option<Lock>) -> [u8; SIZE]
     requires { length text.now ≤ short.room }
     ensures { result ≡ laid_out short text.now lock ++ replicate 8 0 }
 {
-    let mut bytes = [0u8; SIZE];
-    let start = head(lock);
-    seq::copy(&start, &mut bytes, 0);
+    let mut bytes = [0; SIZE];
+    seq::copy(&head(lock), &mut bytes, 0);
     bytes[LENGTH] = text.len() as u8;
     seq::copy(text, &mut bytes, TEXT);
     bytes

@@ -16,7 +16,7 @@ use record::Text;
 use refusal::Refusal;
 
 // Four for each vote.
-const BYTES: usize = 4096;
+const BYTES: usize = 4 * BLOCKS;
 
 // How many bytes of input are looked at: one more than is wanted tells that there are too many.
 pub const INPUT: usize = BYTES + 1;
@@ -57,7 +57,8 @@ fn text_line(text: &[u8]) -> Line
     line
 }
 
-// The line of a refusal's number and the number given.
+// The line of a refusal's number and the number given. They come as numbers of 64 bits, of at most 20 digits each: with the
+// refusal itself the goals on the line's room stay open.
 fn refused_line(number: u64, given: u64) -> Line
     ensures { result ≡ refused_line number given }
 {

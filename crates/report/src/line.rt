@@ -7,6 +7,7 @@ use std::marker::Model;
 // The longest is "text 32 ", 64 digits and the line's end.
 const ROOM: usize = 73;
 
+// No `record::Text` with more room: a text has zeros behind it, which C is lent, and a line grows piece by piece.
 #[derive(Drop)]
 pub struct Line {
     bytes: [u8; ROOM],
@@ -24,6 +25,7 @@ impl Model for Line {
     ghost invariant = { λ l. l.len ≤ 73 };
 }
 
+// Digits by hand, here and below: `write!` promises its bytes only where it answers Ok, and a line is promised always.
 #[tactic(auto, unfolding(crate::specs::Line::digit))]
 fn glyph(d: u8) -> u8
     requires { d < 16 }
@@ -42,6 +44,7 @@ impl Line {
         }
     }
 
+    // The bytes that were put.
     pub fn as_slice(&self) -> &[u8]
         ensures { result.now ≡ self.now }
     {

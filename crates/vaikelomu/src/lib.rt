@@ -1,14 +1,14 @@
 // The mark as C sees it, for the archive and everyone who links the static library: writing a text into a picture,
 // reading it, and reading it from votes. Numbers and lent memory only; nothing is asked of the caller but that the memory
-// is there. `include/vaikelomu.h` says in words what is promised here; `vaikelomu_c` exports these functions.
+// is there. A flag is a byte, since C may lend a `bool` that is neither true nor false. `include/vaikelomu.h` says in words
+// what is promised here; `vaikelomu_c` exports these functions.
 #![tactic(auto)]
 
 ghost use Rattle.std.specs.Prelude.{◌≡◌};
 ghost use Rattle.refusal.specs.Numbers.{code_of, given_for};
-ghost use Rattle.record.specs.Given.{lock_from, key_from};
 ghost use Rattle.record.specs.Answers.{text_given, padded};
 ghost use Rattle.extract.specs.Extract.{record_reading};
-ghost use Rattle.vaikelomu.specs.C.{version, is_set, picture_of, length_of, record_lent, written_for, read_for, votes_for};
+ghost use Rattle.vaikelomu.specs.C.{version, picture_of, length_of, record_lent, written_for, read_for, votes_for};
 
 use encoder::RECORD;
 use picture::Picture;
@@ -29,6 +29,7 @@ pub fn vaikelomu_version() -> u32
     MAJOR << 16 | MINOR << 8 | PATCH
 }
 
+// The fields say which number is which, as a `new` of three numbers would not.
 fn picture_of(width: usize, height: usize, channels: usize) -> Picture
     ensures { result ≡ picture_of width height channels }
 {
@@ -36,30 +37,6 @@ fn picture_of(width: usize, height: usize, channels: usize) -> Picture
         width,
         height,
         channels,
-    }
-}
-
-// A flag is a byte, since C may lend a `bool` that is neither true nor false.
-fn lock_of(locked: u8, key: &[u8; 32], salt: &[u8; 4]) -> Option<Lock>
-    ensures { result ≡ lock_from (is_set locked) key.now salt.now }
-{
-    if locked != 0 {
-        Some(Lock {
-            key: *key,
-            salt: *salt,
-        })
-    } else {
-        None
-    }
-}
-
-fn key_of(keyed: u8, key: &[u8; 32]) -> Option<Key>
-    ensures { result ≡ key_from (is_set keyed) key.now }
-{
-    if keyed != 0 {
-        Some(Key { bytes: *key })
-    } else {
-        None
     }
 }
 
@@ -91,7 +68,7 @@ pub fn vaikelomu_write(
         work.old).answer }
 {
     let picture = picture_of(width, height, channels);
-    let lock = lock_of(locked, key, salt);
+    let lock = Lock::when(locked != 0, key, salt);
     let answer = resilient::write(samples, picture, text, lock, work);
     *given = refusal::given_for(&answer);
     refusal::code(&answer)
@@ -140,7 +117,7 @@ pub fn vaikelomu_read(
         ≡ given_for (read_for samples.now width height channels keyed key.now work.old).reading }
 {
     let picture = picture_of(width, height, channels);
-    let reading = resilient::read(samples, picture, key_of(keyed, key), work);
+    let reading = resilient::read(samples, picture, Key::when(keyed != 0, key), work);
     tell(&reading, text, length, given)
 }
 
@@ -158,7 +135,7 @@ pub fn vaikelomu_read_votes(
     ensures length { length.new ≡ length_of (text_given (votes_for votes.now keyed key.now)) }
     ensures number { given.new ≡ given_for (votes_for votes.now keyed key.now) }
 {
-    let reading = extract::read_votes(votes, key_of(keyed, key));
+    let reading = extract::read_votes(votes, Key::when(keyed != 0, key));
     tell(&reading, text, length, given)
 }
 

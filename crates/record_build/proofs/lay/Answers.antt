@@ -30,6 +30,6 @@ pub returns : goal.returns
 unfolding laid_out
 returns c =
     let front = head_of short c.args.lock in
-    let five : length front ≡ 5 = rw (← c.head-start.ensures) (search rules) in
-    let new : c.copy.new.to ≡ front ++ replicate 41 0 = c.copy.ensures ∙ rw c.head-start.ensures (begun front five) in
+    let five : length front ≡ 5 = rw (← c.head.ensures) (search rules) in
+    let new : c.copy.new.to ≡ front ++ replicate 41 0 = c.copy.ensures ∙ rw c.head.ensures (begun front five) in
     rw (c.copy-2.ensures, new) (all_laid front c.args.text.now five (search rules))
