@@ -18,10 +18,10 @@ pub fn shuffle(key: &[u8; 32], len: usize, count: usize, entries: &mut [u16]) ->
     ensures lent { entries.new
         ≡ lent_for (length entries.old) (shuffle_of key.now len count (length entries.old)) }
 {
-    let held = held(len);
-    let wanted = count.min(held).min(entries.len());
+    let long = held(len);
+    let wanted = count.min(long).min(entries.len());
     let mut list = rising();
-    let found = permute(key, wanted, &mut list[..held]);
+    let found = permute(key, wanted, &mut list[..long]);
     lay_out(&list[..found], entries);
     found
 }
@@ -37,11 +37,7 @@ fn held(len: usize) -> usize
 fn rising() -> [u16; LONGEST]
     ensures { result ≡ tab (λ k. k) longest_shuffle }
 {
-    let mut list = [0u16; LONGEST];
-    for (k, entry) in list.iter_mut().enumerate() {
-        *entry = k as u16;
-    }
-    list
+    std::array::from_fn(|k: usize| k as u16)
 }
 
 // Makes the first `count` entries in place, and answers how many were made before the keystream ended.
@@ -52,10 +48,9 @@ fn permute(key: &[u8; 32], count: usize, list: &mut [u16]) -> usize
 {
     let mut at: Position = 0;
     for i in 0..count {
-        let Ok(drawn) = draw(key, at, (list.len() - i) as u64) else {
+        let Ok((r, next)) = draw(key, at, (list.len() - i) as u64) else {
             return i;
         };
-        let (r, next) = drawn;
         list.swap(i, place_of(i, r));
         at = next;
     }
@@ -76,7 +71,7 @@ fn draw(key: &[u8; 32], from: Position, range: u64) -> Result<(u64, Position), K
 {
     let mut at = from;
     loop {
-        let mut bytes = [0u8; 8];
+        let mut bytes = [0; 8];
         let next = keystream::apply(key, &[0; 12], at, &mut bytes)?;
         let value = u64::from_le_bytes(bytes);
         if accepted(value, range) {
