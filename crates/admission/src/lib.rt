@@ -9,6 +9,7 @@ ghost use Rattle.picture.specs.Sizes.{longest_side};
 use picture::{LONGEST, PLANE, Picture, SHORTEST_TO_WRITE};
 use refusal::Refusal;
 
+// Functions and no methods: these belong to the admission, and a method of `Picture` would stand in its crate.
 #[tactic(auto, unfolding(crate::specs::Admission::shorter))]
 fn shorter(p: Picture) -> usize
     ensures { result ≡ shorter p }

@@ -171,6 +171,7 @@ fn pack(bits: &[u8; STEPS]) -> [u8; RECORD]
     std::array::from_fn(|i: usize| byte_of(bits, i))
 }
 
+// A `fold` is no shorter than the loop, and its closure would have to bound the value so far.
 fn byte_of(bits: &[u8], i: usize) -> u8
     requires { (8 * i + 8 ≤ length bits.now) × Bits bits.now }
     ensures { result ≡ byte_at bits.now i }

@@ -12,7 +12,7 @@ use keystream::{KeystreamEnd, Position};
 const LONGEST: usize = 4096;
 
 // The first `count` entries of the shuffle of `len`, cut to `len` and to the room lent; fewer where the keystream ends.
-// Answers their number, and the places beyond it hold 0. A `len` above 4,096 gives no entries.
+// Answers their number, and the places beyond it hold 0. A `len` above 4,096 gives no entries. The room is lent, as C lends it.
 pub fn shuffle(key: &[u8; 32], len: usize, count: usize, entries: &mut [u16]) -> usize
     ensures number { result ≡ length (shuffle_of key.now len count (length entries.old)) }
     ensures lent { entries.new
@@ -57,7 +57,8 @@ fn permute(key: &[u8; 32], count: usize, list: &mut [u16]) -> usize
     count
 }
 
-// The place that entry i is exchanged with, where r was drawn: itself or a later one.
+// The place that entry i is exchanged with, where r was drawn: itself or a later one. By its own promise, on which the edit
+// `exchanged_with_earlier` is tried.
 fn place_of(i: usize, r: u64) -> usize
     requires { i + r < 2 ^ 64 }
     ensures { result ≡ i + r }
@@ -89,7 +90,7 @@ pub fn accepted(value: u64, range: u64) -> bool
     range != 0 && value <= u64::MAX - range.wrapping_neg() % range
 }
 
-// The entries found, and 0 in the places beyond them.
+// The entries found, and 0 in the places beyond them: place by place, so that the edit `spare_room_left` can leave one.
 fn lay_out(found: &[u16], entries: &mut [u16])
     ensures { entries.new ≡ lent_for (length entries.old) found.now }
 {
