@@ -9,6 +9,7 @@ ghost use Rattle.picture.specs.Sizes.{longest_side};
 use picture::{LONGEST, PLANE, Picture, SHORTEST_TO_WRITE};
 use refusal::Refusal;
 
+// Functions and no methods: these belong to the admission, and a method of `Picture` would stand in its crate.
 #[tactic(auto, unfolding(crate::specs::Admission::shorter))]
 fn shorter(p: Picture) -> usize
     ensures { result ≡ shorter p }
@@ -23,10 +24,11 @@ fn longer(p: Picture) -> usize
     p.width.max(p.height)
 }
 
+#[tactic(auto, unfolding(crate::specs::Admission::shorter))]
 fn empty(p: Picture) -> bool
     ensures { result ≡ (eqb p.width 0 || eqb p.height 0) }
 {
-    p.width == 0 || p.height == 0
+    shorter(p) == 0
 }
 
 // How many pixels a picture has whose sides are not too long.
@@ -48,12 +50,12 @@ fn admit(parts: usize, p: Picture, samples: usize, work: usize) -> Result<(), Re
     if LONGEST < side {
         return Err(Refusal::ImageTooLarge(side));
     }
-    if channels != 3 && channels != 4 {
+    if !(3..=4).contains(&channels) {
         return Err(Refusal::BadChannels(channels));
     }
-    let pixels = pixels(p);
-    let all = pixels * channels;
-    let needed = parts * (PLANE + pixels);
+    let count = pixels(p);
+    let all = count * channels;
+    let needed = parts * (PLANE + count);
     if samples != all {
         return Err(Refusal::BadLength(samples));
     }

@@ -14,7 +14,8 @@ ghost use Rattle.picture.specs.Sizes.{block_count, plane_size};
 
 use float::{floor_f32, min_f32, round_f32};
 
-// The places of the coefficients (1,1), (1,2), (2,1) and (2,2), which carry the bit.
+// The places of the coefficients (1,1), (1,2), (2,1) and (2,2), which carry the bit. They are written out where they
+// are used, as one equation of the values: a loop's invariant would say the same for so many of the four.
 const COEFFICIENTS: [usize; 4] = [9, 10, 17, 18];
 
 fn marked(v: f32, u: f32, half: f32) -> f32
@@ -64,7 +65,7 @@ pub fn block_vote(values: &[f32; 64], u: [f32; 4]) -> f32
     )
 }
 
-// Where line r of block b starts in the plane.
+// Where line r of block b starts in the plane. b and r are numbers of loops: a type for the bound of each would say no more.
 fn line_at(b: usize, r: usize) -> usize
     requires { (b < block_count) × (r < 8) }
     ensures { result ≡ line_at b r }
@@ -72,8 +73,7 @@ fn line_at(b: usize, r: usize) -> usize
     (b / 32 * 8 + r) * 256 + b % 32 * 8
 }
 
-// Block b of the plane, which stands first in what is lent. The eight floats of a line are stored one by one: a `memcpy` for
-// each costs more.
+// Block b of the plane, which stands first in what is lent. r is a line of the block and of the plane, not a place in a list.
 pub fn load_block(plane: &[f32], b: usize) -> [f32; 64]
     requires { (b < block_count) × (plane_size ≤ length plane.now) }
     ensures { result ≡ load_of plane.now b }

@@ -48,7 +48,7 @@ fn inner_block(s: &mut [u32; 16])
     quarter_round(s, 3, 4, 9, 14);
 }
 
-// 2.3: twenty rounds.
+// 2.3: twenty rounds, two in each inner block.
 fn ten_times(state: &[u32; 16]) -> [u32; 16]
     ensures { result ≡ rounds 10 state.now }
 {
@@ -92,11 +92,12 @@ pub fn first_state(key: &[u8; 32], nonce: &[u8; 12]) -> [u32; 16]
     ]
 }
 
-// 2.3: the words of two states added, and the sums one after the other as bytes.
+// 2.3: the words of two states added, and the sums one after the other as bytes. By a number, since over `s.iter().enumerate()`
+// a block takes 8 instructions more.
 fn sum_bytes(s: &[u32; 16], t: &[u32; 16]) -> [u8; 64]
     ensures { result ≡ serialized (sums s.now t.now) }
 {
-    let mut out = [0u8; 64];
+    let mut out = [0; 64];
     for i in 0..16 {
         let w = s[i].wrapping_add(t[i]);
         out[4 * i..4 * i + 4].copy_from_slice(&w.to_le_bytes());

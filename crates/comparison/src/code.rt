@@ -77,7 +77,7 @@ pub extern "C" fn vk_decode(soft: &[f32; CODED], bytes: &mut [u8; RECORD]) -> f3
     ensures { (bytes.new ≡ bytes_of record_size (decoded floats soft.now)) × (result ≡ strength floats soft.now) }
 {
     let survivor = decoder::decode(soft);
-    // By a name of its own: a field that is an array is not stored straight.
+    // By a name of its own, since an array is stored through a reference only as a whole local.
     let found = survivor.bytes;
     *bytes = found;
     survivor.metric

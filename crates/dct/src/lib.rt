@@ -11,14 +11,14 @@ ghost use Rattle.dct.specs.Dct.{forward_of, inverse_of, dot_of};
 
 use matrix::MATRIX;
 
-// The matrix, line by line. Made once and lent: a constant is rebuilt at every use.
+// The matrix, line by line. Public for its promise; a `Transform` owns it, since a constant is rebuilt at every use.
 pub fn dct_matrix() -> [f32; 64]
     ensures { result ≡ grid dct_entry }
 {
     MATRIX
 }
 
-// The same with its lines and columns exchanged.
+// The same with its lines and columns exchanged. Public for its promise too.
 pub fn dct_turned() -> [f32; 64]
     ensures { result ≡ grid dct_turned }
 {

@@ -10,7 +10,7 @@ ghost use Rattle.std.specs.Prelude.{◌≡◌, true, ◌+◌, ◌*◌, ◌/◌, 
 ghost use Rattle.std.specs.Float.{nan, inf};
 ghost use Rattle.std.specs.Float.Ieee.{neg, lt};
 ghost use Rattle.encoder.specs.Ccsds131.{record_size, Bits};
-ghost use Rattle.decoder.specs.Decoder.{floats, pick, voted, best_at, odd_at, next_metrics, starting, decoded, strength, byte_at, bytes_of};
+ghost use Rattle.decoder.specs.Decoder.{floats, pick, voted, best_at, odd_at, next_metrics, metrics_after, starting, decoded, strength, byte_at, bytes_of};
 ghost use Rattle.decoder.specs.Decisions.{packed, decision_rows, traced_path};
 
 use encoder::{CODED, RECORD};
@@ -26,7 +26,7 @@ pub struct Survivor {
     pub metric: f32,
 }
 
-// The record that the votes of its coded bits give.
+// The record that the votes of its coded bits give, for one who needs no metric.
 pub fn viterbi(soft: &[f32; CODED]) -> [u8; RECORD]
     ensures { result ≡ bytes_of record_size (decoded floats soft.now) }
 {
@@ -37,27 +37,22 @@ pub fn viterbi(soft: &[f32; CODED]) -> [u8; RECORD]
 pub fn decode(soft: &[f32; CODED]) -> Survivor
     ensures { (result.bytes ≡ bytes_of record_size (decoded floats soft.now)) × (result.metric ≡ strength floats soft.now) }
 {
-    let mut from_odd = [0u64; STEPS];
-    let end = forward(soft, &mut from_odd);
-    let mut bits = [0u8; STEPS];
-    backward(&from_odd, end.state, &mut bits);
+    let mut decisions = [0; STEPS];
+    let metrics = forward(soft, &mut decisions);
+    // State 0, to which the six zeros after the record lead, whatever the metrics of the other states.
+    let end = 0;
+    let mut bits = [0; STEPS];
+    backward(&decisions, end, &mut bits);
     Survivor {
         bytes: pack(&bits),
-        metric: end.metric,
+        metric: metrics[end],
     }
 }
 
-// The state in which the path ends, and its metric.
-#[derive(Clone, Copy)]
-struct Ended {
-    state: usize,
-    metric: f32,
-}
-
-// All steps: for each, which states were reached from their odd predecessor; and the end of the path.
-fn forward(soft: &[f32], decisions: &mut [u64]) -> Ended
+// All steps: for each, which states were reached from their odd predecessor; and the metrics in which they end.
+fn forward(soft: &[f32], decisions: &mut [u64]) -> [f32; 64]
     requires { length soft.now ≡ 2 * length decisions.old }
-    ensures { (result.state ≡ 0) × (result.metric ≡ strength floats soft.now)
+    ensures { (result ≡ metrics_after floats (starting floats) soft.now)
         × (decisions.new ≡ decision_rows floats (starting floats) soft.now) }
 {
     let mut metric = [f32::NEG_INFINITY; 64];
@@ -67,17 +62,7 @@ fn forward(soft: &[f32], decisions: &mut [u64]) -> Ended
         metric = s.metric;
         *decision = s.odd;
     }
-    end_of(&metric)
-}
-
-// State 0, to which the six zeros after the record lead, whatever the metrics of the other states.
-fn end_of(metric: &[f32; 64]) -> Ended
-    ensures { (result.state ≡ 0) × (result.metric ≡ get_or metric.now 0 nan) }
-{
-    Ended {
-        state: 0,
-        metric: metric[0],
-    }
+    metric
 }
 
 // One step: the next metrics, and a bit for each state that says whether its odd predecessor won.
@@ -92,8 +77,8 @@ struct Stepped {
 fn advance(m: &[f32; 64], s0: f32, s1: f32) -> Stepped
     ensures { (result.metric ≡ next_metrics floats m.now s0 s1) × (result.odd ≡ packed (odd_at floats m.now s0 s1) 64) }
 {
-    let mut next = [0.0f32; 64];
-    let mut odd = 0u64;
+    let mut next = [0.0; 64];
+    let mut odd = 0;
     for k in 0..32 {
         let w = winner_of(m, 2 * k, k, s0, s1);
         next[k] = w.metric;
@@ -136,7 +121,7 @@ fn winner_of(m: &[f32; 64], even: usize, k: usize, s0: f32, s1: f32) -> Winner
     }
 }
 
-// A vote, turned round where the coded bit is 1.
+// A vote, turned round where the coded bit is 1: an output of the code, which is a number in its definition too.
 fn vote(c: u8, v: f32) -> f32
     ensures { result ≡ voted neg c v }
 {
@@ -166,7 +151,7 @@ fn bit_of(d: u64, k: usize) -> usize
     ((d >> k) % 2) as usize
 }
 
-// Traceback: the bits on the way back from the state in which the path ends.
+// Traceback: the bits on the way back from the state in which the path ends. A step has its place in both lists.
 fn backward(decisions: &[u64], end: usize, bits: &mut [u8])
     requires { (end < 64) × (length bits.old ≡ length decisions.now) }
     ensures { bits.new ≡ traced_path decisions.now end }
@@ -186,6 +171,7 @@ fn pack(bits: &[u8; STEPS]) -> [u8; RECORD]
     std::array::from_fn(|i: usize| byte_of(bits, i))
 }
 
+// A `fold` is no shorter than the loop, and its closure would have to bound the value so far.
 fn byte_of(bits: &[u8], i: usize) -> u8
     requires { (8 * i + 8 ≤ length bits.now) × Bits bits.now }
     ensures { result ≡ byte_at bits.now i }

@@ -20,9 +20,7 @@ const NONCE: [u8; 12] = [1, 0, 0, 0, 0, 0, 0, 0, 0, 0, 0, 0];
 pub fn dither(group: u32) -> [f32; 16]
     ensures { result ≡ tab (λ k. dither_of (16 * group + k)) 16 }
 {
-    let key = LAYOUT_KEY;
-    let nonce = NONCE;
-    numbers(&chacha20::block(&key, group, &nonce))
+    numbers(&chacha20::block(&LAYOUT_KEY, group, &NONCE))
 }
 
 fn numbers(bytes: &[u8; 64]) -> [f32; 16]

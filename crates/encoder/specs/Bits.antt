@@ -1,6 +1,8 @@
 -- An output is below 2. The bits of bytes, most significant first: how many, that each is below 2, and which stands where.
-use Rattle.std.specs.Prelude.{◌≡◌, refl, List, [], ◌∷◌, ℕ, zero, suc, ◌+◌, ◌-◌, ◌*◌, ◌/◌, ◌%◌, ◌^◌, ◌≤◌, ◌<◌, length, get_or}
-use Rattle.std.proofs.Common.{sym, ap, ap₂, ◌∙◌, arith}
+use Rattle.std.specs.Prelude.{◌≡◌, refl, List, [], ◌∷◌, ℕ, zero, suc, ◌+◌, ◌-◌, ◌*◌, ◌/◌, ◌%◌, ◌^◌, ◌≤◌, ◌<◌, length, get_or, Bool, true, false, not, T, ltb}
+use Rattle.std.proofs.Common.{sym, ap, ap₂, ◌∙◌, arith, ltb→lt, nltb→le}
+use Rattle.std.proofs.Math.ListN.{get_or-eq_default}
+use Rattle.std.proofs.Math.Nat.{zero-div}
 use Rattle.encoder.specs.Ccsds131.{parity, record_bits, six_zeros, Bits, none, one}
 
 pub parity-lt : (g r : ℕ) → parity g r < 2
@@ -72,3 +74,15 @@ bit-out (x ∷ xs) (suc (suc (suc (suc (suc zero))))) h = absurd (omega arith)
 bit-out (x ∷ xs) (suc (suc (suc (suc (suc (suc zero)))))) h = absurd (omega arith)
 bit-out (x ∷ xs) (suc (suc (suc (suc (suc (suc (suc zero))))))) h = absurd (omega arith)
 bit-out (x ∷ xs) (suc (suc (suc (suc (suc (suc (suc (suc t)))))))) h = bit-out xs t (omega arith)
+
+-- by whether t lies in the record, whose bytes read as 0 behind it
+pub bit-there : (xs : List ℕ) (t : ℕ) → get_or xs (t / 8) 0 / 2 ^ (7 - t % 8) % 2 ≡ get_or (record_bits xs six_zeros) t 0
+bit-there xs t = go (ltb (t / 8) (length xs)) (ltb→lt (t / 8) (length xs)) (nltb→le (t / 8) (length xs))
+  where
+    go : (b : Bool) → (T b → t / 8 < length xs) → (T (not b) → length xs ≤ t / 8)
+        → get_or xs (t / 8) 0 / 2 ^ (7 - t % 8) % 2 ≡ get_or (record_bits xs six_zeros) t 0
+    go true h k = sym (bit-in xs six_zeros t (h tt))
+    go false h k =
+        let behind : get_or xs (t / 8) 0 ≡ 0 = get_or-eq_default xs 0 (k tt) in
+        let nothing : 0 / 2 ^ (7 - t % 8) % 2 ≡ 0 = ap (λ (x : ℕ). x % 2) (zero-div (2 ^ (7 - t % 8))) in
+        rw behind (nothing ∙ sym (bit-out xs t (k tt)))

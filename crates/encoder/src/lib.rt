@@ -12,7 +12,7 @@ pub const RECORD: usize = 46;
 
 pub const CODED: usize = 16 * RECORD + 12;
 
-// The generators, as octal numbers: the bits of the register that an output is the parity of.
+// The generators of the two outputs, as octal numbers: the bits of the register that an output is the parity of.
 const GENERATOR_0: u32 = 0o171;
 
 const GENERATOR_1: u32 = 0o133;
@@ -21,12 +21,12 @@ const GENERATOR_1: u32 = 0o133;
 pub fn encode(bytes: &[u8; RECORD]) -> [u8; CODED]
     ensures { result ≡ encode_of bytes.now }
 {
-    let mut coded = [0u8; CODED];
+    let mut coded = [0; CODED];
     encode_into(bytes, &mut coded);
     coded
 }
 
-// The same for a record of any length, into as many places as it has coded bits.
+// The same for a record of any length, as the definition has it, into as many places as it has coded bits: t is a bit, two places.
 fn encode_into(bytes: &[u8], coded: &mut [u8])
     requires { (length coded.old ≡ 16 * length bytes.now + 12) × (length bytes.now ≤ 4096) }
     ensures { coded.new ≡ encode_of bytes.now }
@@ -44,12 +44,7 @@ fn encode_into(bytes: &[u8], coded: &mut [u8])
 fn bit_at(bytes: &[u8], t: usize) -> u8
     ensures { result ≡ get_or (record_bits bytes.now six_zeros) t 0 }
 {
-    let i = t / 8;
-    if i < bytes.len() {
-        (bytes[i] >> (7 - t % 8)) % 2
-    } else {
-        0
-    }
+    (bytes.get(t / 8).copied().unwrap_or(0) >> (7 - t % 8)) % 2
 }
 
 // The parity of a register's bits under a generator.

@@ -19,6 +19,7 @@ pub fn block_bits(coded: &[u8; CODED]) -> [u8; BLOCKS]
 {
     let layout = Layout::new();
     let mut bits = [0u8; BLOCKS];
+    // j is a place: it names a block and a coded bit, and runs along neither list.
     for j in 0..BLOCKS {
         bits[layout.block(j)] = coded[j % CODED];
     }

@@ -12,16 +12,16 @@ use keystream::{KeystreamEnd, Position};
 const LONGEST: usize = 4096;
 
 // The first `count` entries of the shuffle of `len`, cut to `len` and to the room lent; fewer where the keystream ends.
-// Answers their number, and the places beyond it hold 0. A `len` above 4,096 gives no entries.
+// Answers their number, and the places beyond it hold 0. A `len` above 4,096 gives no entries. The room is lent, as C lends it.
 pub fn shuffle(key: &[u8; 32], len: usize, count: usize, entries: &mut [u16]) -> usize
     ensures number { result ≡ length (shuffle_of key.now len count (length entries.old)) }
     ensures lent { entries.new
         ≡ lent_for (length entries.old) (shuffle_of key.now len count (length entries.old)) }
 {
-    let held = held(len);
-    let wanted = count.min(held).min(entries.len());
+    let long = held(len);
+    let wanted = count.min(long).min(entries.len());
     let mut list = rising();
-    let found = permute(key, wanted, &mut list[..held]);
+    let found = permute(key, wanted, &mut list[..long]);
     lay_out(&list[..found], entries);
     found
 }
@@ -37,11 +37,7 @@ fn held(len: usize) -> usize
 fn rising() -> [u16; LONGEST]
     ensures { result ≡ tab (λ k. k) longest_shuffle }
 {
-    let mut list = [0u16; LONGEST];
-    for (k, entry) in list.iter_mut().enumerate() {
-        *entry = k as u16;
-    }
-    list
+    std::array::from_fn(|k: usize| k as u16)
 }
 
 // Makes the first `count` entries in place, and answers how many were made before the keystream ended.
@@ -52,17 +48,17 @@ fn permute(key: &[u8; 32], count: usize, list: &mut [u16]) -> usize
 {
     let mut at: Position = 0;
     for i in 0..count {
-        let Ok(drawn) = draw(key, at, (list.len() - i) as u64) else {
+        let Ok((r, next)) = draw(key, at, (list.len() - i) as u64) else {
             return i;
         };
-        let (r, next) = drawn;
         list.swap(i, place_of(i, r));
         at = next;
     }
     count
 }
 
-// The place that entry i is exchanged with, where r was drawn: itself or a later one.
+// The place that entry i is exchanged with, where r was drawn: itself or a later one. By its own promise, on which the edit
+// `exchanged_with_earlier` is tried.
 fn place_of(i: usize, r: u64) -> usize
     requires { i + r < 2 ^ 64 }
     ensures { result ≡ i + r }
@@ -76,7 +72,7 @@ fn draw(key: &[u8; 32], from: Position, range: u64) -> Result<(u64, Position), K
 {
     let mut at = from;
     loop {
-        let mut bytes = [0u8; 8];
+        let mut bytes = [0; 8];
         let next = keystream::apply(key, &[0; 12], at, &mut bytes)?;
         let value = u64::from_le_bytes(bytes);
         if accepted(value, range) {
@@ -94,7 +90,7 @@ pub fn accepted(value: u64, range: u64) -> bool
     range != 0 && value <= u64::MAX - range.wrapping_neg() % range
 }
 
-// The entries found, and 0 in the places beyond them.
+// The entries found, and 0 in the places beyond them: place by place, so that the edit `spare_room_left` can leave one.
 fn lay_out(found: &[u16], entries: &mut [u16])
     ensures { entries.new ≡ lent_for (length entries.old) found.now }
 {

@@ -1,7 +1,7 @@
 -- After t steps the metric is the definition's after the first 2 t votes, and the first t decisions are its.
-use Rattle.std.proofs.Common.{◌≡◌, refl, sym, ap, ◌∙◌, ◌+◌, ◌*◌, ◌<◌, List, length, take, get_or, arith, length-set, take_all}
-use Rattle.std.specs.Float.Ieee.{Float, nan, div, neg, of_bits}
-use Rattle.decoder.specs.Decoder.{floats, metrics_after, starting, strength}
+use Rattle.std.proofs.Common.{◌≡◌, refl, sym, ap, ◌∙◌, ◌+◌, ◌*◌, ◌<◌, length, take, arith, length-set, take_all}
+use Rattle.std.specs.Float.Ieee.{nan, div, neg, of_bits}
+use Rattle.decoder.specs.Decoder.{floats, metrics_after, starting}
 use Rattle.decoder.specs.Decisions.{decision_rows}
 use Rattle.decoder.specs.Loops.{metric-step, rows_step}
 use Rattle.decoder.proofs.forward.Goals as goal
@@ -22,12 +22,10 @@ loop-t-preserved c =
     )
 
 pub returns : goal.returns
-unfolding strength
 returns c =
     let l = c.loop-t in
     let soft = c.args.soft.now in
     let whole : take (2 * l.t) soft ≡ soft = take_all (2 * l.t) soft (omega arith) in (
-      c.end_of.ensures.0,
-      c.end_of.ensures.1 ∙ ap (λ (m : List Float). get_or m 0 nan) (l.invariant.1 ∙ ap (metrics_after floats (starting floats)) whole),
+      l.invariant.1 ∙ ap (metrics_after floats (starting floats)) whole,
       sym (take_all l.t l.decisions (omega arith)) ∙ l.invariant.2 ∙ ap (decision_rows floats (starting floats)) whole,
     )

@@ -1,10 +1,7 @@
--- The first k places hold their numbers, k rising.
-use Rattle.std.proofs.Common.{refl, arith}
-use Rattle.seq.specs.Fills.{fills-none, fills-more}
+-- Place k holds its number.
+use Rattle.std.proofs.Common.{ℕ, rules}
+use Rattle.seq.specs.Made.{array_made}
 use Rattle.shuffle.proofs.rising.Goals as goal
 
-pub loop-k-init : goal.loop-k-init
-loop-k-init c = fills-none _ _ _ refl
-
-pub loop-k-preserved : goal.loop-k-preserved
-loop-k-preserved c = fills-more c.loop-k.invariant (omega arith) refl
+pub returns : goal.returns
+returns c = array_made _ (λ (k : ℕ). k) _ (λ i y d k. search rules) _ 4096 c.from_fn.ensures.items

@@ -24,14 +24,14 @@ found-made key list after len count room h least wanted found e b l w t f n m =
 
 pub returns-clause-number : goal.returns-clause-number
 returns-clause-number c =
-    let h = c.held-held.ensures in
+    let h = c.held-long.ensures in
     let p = c.permute-found.ensures in
     let f = found-made c.args.key.now _ _ _ _ _ _ _ _ _ h.0 h.1 c.min.ensures c.min-wanted.ensures c.rising-list.ensures p.0 p.1 p.2 in
     sym (length-take-le _ _ f.0) ∙ ap length f.1
 
 pub returns-clause-lent : goal.returns-clause-lent
 returns-clause-lent c =
-    let h = c.held-held.ensures in
+    let h = c.held-long.ensures in
     let p = c.permute-found.ensures in
     let f = found-made c.args.key.now _ _ _ _ _ _ _ _ _ h.0 h.1 c.min.ensures c.min-wanted.ensures c.rising-list.ensures p.0 p.1 p.2 in
     let front = take-append-le _ _ _ f.0 ∙ f.1 in

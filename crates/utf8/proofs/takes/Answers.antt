@@ -48,7 +48,7 @@ read fs bs i left low high h e = rw (add-one, ← drop-cons bs i 0 h) e
 
 pub loop-b-init : goal.loop-b-init
 unfolding due
-loop-b-init g c = ap (λ (d : List Range). accepts g.G.Grammar.characters d c.args.bytes.now) c.new-due.ensures
+loop-b-init g c = ap (λ (d : List Range). accepts g.G.Grammar.characters d c.args.bytes.now) c.tails-due.ensures
 
 pub returns-then-b-due : goal.returns-then-b-due
 returns-then-b-due g c =
@@ -73,7 +73,7 @@ loop-b-preserved g c =
     let here = read fs bs i d.left d.low d.high c.loop-b-test.true c.loop-b.invariant in
     elim c.if-due-ne0.branch [
       | then-due-ne0+else-b-due+else-due-b w ↦
-          rw w.due-is (ap (λ (e : List Range). accepts fs e rest) w.new-due-then-due-ne0.ensures
+          rw w.due-is (ap (λ (e : List Range). accepts fs e rest) w.tails-due-then-due-ne0.ensures
           ∙ follows fs b rest d.left d.low d.high w.if-due-ne0.true w.if-b-due.false w.if-due-b.false ∙ here)
       | else-due-ne0+in-Some w ↦ rw w.due-is (leads fs b rest d.left d.low d.high _ w.if-due-ne0.false w.in-Some.ensures ∙ here)
     ]

@@ -9,7 +9,7 @@ use Rattle.utf8.proofs.Rfc3629Grammar.after.Goals as goal
 
 pub returns-in-224 : goal.returns-in-224
 unfolding forms due
-returns-in-224 c = c.new-in-224.ensures ∙ reaches (forms UTF8-char) 2 c.args.lead (omega arith)
+returns-in-224 c = c.new.ensures ∙ reaches (forms UTF8-char) 2 c.args.lead (omega arith)
 
 pub returns-in-237 : goal.returns-in-237
 unfolding forms due
@@ -25,23 +25,23 @@ returns-in-244 c = c.new-in-244.ensures ∙ reaches (forms UTF8-char) 8 c.args.l
 
 pub returns-then-lead-le127 : goal.returns-then-lead-le127
 unfolding forms due
-returns-then-lead-le127 c = c.new.ensures ∙ reaches (forms UTF8-char) 0 c.args.lead (omega arith)
+returns-then-lead-le127 c = c.tails.ensures ∙ reaches (forms UTF8-char) 0 c.args.lead (omega arith)
 
 pub returns-in-194-to-223 : goal.returns-in-194-to-223
 unfolding forms due
-returns-in-194-to-223 c = c.new-in-194-to-223.ensures ∙ reaches (forms UTF8-char) 1 c.args.lead (omega arith)
+returns-in-194-to-223 c = c.tails-in-194-to-223.ensures ∙ reaches (forms UTF8-char) 1 c.args.lead (omega arith)
 
 pub returns-in-225-to-236 : goal.returns-in-225-to-236
 unfolding forms due
-returns-in-225-to-236 c = c.new-in-225-to-236.ensures ∙ reaches (forms UTF8-char) 3 c.args.lead (omega arith)
+returns-in-225-to-236 c = c.tails-in-225-to-236.ensures ∙ reaches (forms UTF8-char) 3 c.args.lead (omega arith)
 
 pub returns-in-238-to-239 : goal.returns-in-238-to-239
 unfolding forms due
-returns-in-238-to-239 c = c.new-in-238-to-239.ensures ∙ reaches (forms UTF8-char) 5 c.args.lead (omega arith)
+returns-in-238-to-239 c = c.tails-in-238-to-239.ensures ∙ reaches (forms UTF8-char) 5 c.args.lead (omega arith)
 
 pub returns-in-241-to-243 : goal.returns-in-241-to-243
 unfolding forms due
-returns-in-241-to-243 c = c.new-in-241-to-243.ensures ∙ reaches (forms UTF8-char) 7 c.args.lead (omega arith)
+returns-in-241-to-243 c = c.tails-in-241-to-243.ensures ∙ reaches (forms UTF8-char) 7 c.args.lead (omega arith)
 
 pub returns-in_default : goal.returns-in_default
 unfolding forms
