@@ -31,3 +31,9 @@ text-bytes-one κs a x y p q i = (one p q i, x.1)
 
 pub text-given-one : Determined rec.text_given.ended proved.text_given.Reads.Post
 text-given-one κs a x y p q i = (one p q i, x.1)
+
+pub lock-when-one : Determined rec.Lock.when.ended proved.Lock.when.Reads.Post
+lock-when-one κs a x y p q i = (one p q i, x.1)
+
+pub key-when-one : Determined rec.Key.when.ended proved.Key.when.Reads.Post
+key-when-one κs a x y p q i = (one p q i, x.1)

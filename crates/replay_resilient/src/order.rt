@@ -8,7 +8,13 @@ use replay_lists::Tally;
 // 1 and 2 at once, 2 and 3.
 fn text_order(t: &mut Tally, s: &mut Samples, w: &mut Work) {
     let long = Refusal::TextTooLong(33);
-    t.count(refuses_to_write(&mut s[..THREE], &mut w[..655360], square(3), &[0xff; 33], long));
+    t.count(refuses_to_write(
+        &mut s[..THREE],
+        &mut w[..655360],
+        square(3),
+        &[0xff; 33],
+        long,
+    ));
     let bytes = Refusal::TextNotUtf8;
     let narrow = shape(511, 512, 3);
     t.count(refuses_to_write(&mut s[..784896], &mut w[..654336], narrow, b"\xff", bytes));
