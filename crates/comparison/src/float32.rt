@@ -55,7 +55,7 @@ pub extern "C" fn vk_round_all_to_u8(from: &[f32], to: &mut [u8])
     if from.len() != to.len() {
         return;
     }
-    for i in 0..to.len() {
-        to[i] = float::round_to_u8(from[i]);
+    for (i, byte) in to.iter_mut().enumerate() {
+        *byte = float::round_to_u8(from[i]);
     }
 }

@@ -25,20 +25,16 @@ pub returns-then-from-to : goal.returns-then-from-to
 returns-then-from-to c = unequal c.args.from.now c.args.to.now c.if-from-to.true
 
 pub loop-i-init : goal.loop-i-init
-loop-i-init c = (search rules, search rules, filled_none _ _, refl)
+loop-i-init c = filled_none _ _
 
 pub loop-i-preserved : goal.loop-i-preserved
 loop-i-preserved c =
     let start = c.args in
-    let h : c.loop-i.i < length start.to.now = omega arith in (
-      search rules,
-      search rules,
-      rw (c.loop-i.invariant.2, c.round_to_u8.ensures) (filled_more (rounded_at start.from.now) _ _ h),
-      search rules,
-    )
+    let h : c.loop-i.i < length start.to.now = omega arith in
+    rw (c.loop-i.invariant, c.round_to_u8.ensures) (filled_more (rounded_at start.from.now) _ _ h)
 
 pub returns : goal.returns
 returns c =
     let start = c.args in
     let e : c.loop-i.i ≡ length start.to.now = omega arith in
-    (rw e at c.loop-i.invariant.2) ∙ filled-all _ start.to.now ∙ equal start.from.now start.to.now c.if-from-to.false
+    (rw e at c.loop-i.invariant) ∙ filled-all _ start.to.now ∙ equal start.from.now start.to.now c.if-from-to.false
