@@ -2,7 +2,7 @@
 // answer in words. From the scope, section 20, which specs/Input.antt and specs/Line.antt state.
 #![tactic(auto)]
 
-mod line;
+mod pieces;
 
 ghost use Rattle.std.specs.Prelude.{◌≡◌, ◌≤◌, length};
 ghost use Rattle.seq.specs.Lists.{tab};
@@ -10,8 +10,8 @@ ghost use Rattle.picture.specs.Sizes.{block_count};
 ghost use Rattle.report.specs.Input.{vote_from, bytes_reading};
 ghost use Rattle.report.specs.Line.{text_line, refused_line, line_of};
 
-use line::Line;
 use picture::BLOCKS;
+pub use pieces::Line;
 use record::Text;
 use refusal::Refusal;
 

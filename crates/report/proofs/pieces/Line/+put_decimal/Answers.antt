@@ -2,7 +2,7 @@
 use Rattle.std.proofs.Common.{arith, append_assoc, length-append, ◌≡◌, ◌≤◌, ◌<◌, ◌+◌, ◌/◌, ℕ, length}
 use Rattle.report.specs.Line.{decimal}
 use Rattle.report.specs.Laws.{decimal-last, decimal-more}
-use Rattle.report.proofs.line.Line.+put_decimal.Goals as goal
+use Rattle.report.proofs.pieces.Line.+put_decimal.Goals as goal
 
 -- a single digit, and the digits of the tenth and one more
 one : (n : ℕ) → n < 10 → length (decimal n) ≡ 1

@@ -3,7 +3,7 @@ use Rattle.std.proofs.Common.{rules, arith, append_assoc, length-append, add-one
 use lib.Seq.{take-suc, length-take-le}
 use Rattle.report.specs.Line.{pairs}
 use Rattle.report.specs.Laws.{pairs-more, length_pairs}
-use Rattle.report.proofs.line.Line.put_pairs.Goals as goal
+use Rattle.report.proofs.pieces.Line.put_pairs.Goals as goal
 
 -- the two digits of byte i fit behind those of the bytes before it
 fits : (bytes : List ℕ) (i : ℕ) → i < length bytes → length (pairs (take i bytes)) + 2 ≤ length (pairs bytes)
