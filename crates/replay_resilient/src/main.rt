@@ -30,7 +30,7 @@ fn square(channels: usize) -> Picture {
 
 // Lent as arrays the two areas have their lengths by type.
 fn run(
-    rt: &(impl Files + Print + Eprint + AllocGlobal),
+    rt: &(impl Files + Print + Eprint),
     samples: &mut Samples,
     work: &mut Work,
 ) -> io::Result<()> {

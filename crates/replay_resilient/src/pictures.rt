@@ -70,9 +70,9 @@ fn with_keys(votes: &[f32]) -> Tally {
 
 // The file has a digit for each block: the bit that the Rust lays there of the text's record under the first key. A vote
 // without doubt stands for each, also where the file cannot be read to its end.
-pub fn keyed(rt: &(impl Files + Print + Eprint + AllocGlobal), name: &str) -> io::Result<()> {
-    let mut digits = Vec::new(rt.alloc());
-    replay_lists::read_into(rt, name, &mut digits)?;
+pub fn keyed(rt: &(impl Files + Print + Eprint), name: &str) -> io::Result<()> {
+    let mut digits = replay_lists::room();
+    replay_lists::load(rt, name, &mut digits)?;
     let mut votes = [1.0; BLOCKS];
     for (vote, digit) in votes.iter_mut().zip(&digits) {
         if *digit == b'1' {
