@@ -4,6 +4,7 @@
 // lent with something in it and looked at after each call.
 #![tactic(auto)]
 
+mod expected;
 mod lent;
 mod limits;
 mod marks;
