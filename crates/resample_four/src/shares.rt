@@ -38,8 +38,7 @@ fn products() -> [f32; 768]
 }
 
 impl Shares {
-    // The products, made once for a picture. Not inlined, since a copy of them would stay on the stack.
-    #[inline(never)]
+    // The products, made once for a picture.
     pub fn new() -> Shares
         ensures { result ≡ tab share_at 768 }
     {
