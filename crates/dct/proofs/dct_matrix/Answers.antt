@@ -1,6 +1,6 @@
 -- Place p of the matrix laid out line by line is line p / 8, column p % 8 of the rows, which compute to the constant.
-use Rattle.std.proofs.Common.{◌≡◌, refl, ℕ, ◌/◌, ◌%◌, ◌∙◌, List, ap, rules}
-use Rattle.std.specs.Float.Ieee.{Float, of_bits}
+use Rattle.std.proofs.Common.{ℕ, ◌/◌, ◌%◌, ◌∙◌, rules}
+use Rattle.std.specs.Float.Ieee.{of_bits}
 use Rattle.seq.specs.Made.{array_made}
 use Rattle.dct.specs.Columns.{table-grid}
 use Rattle.dct.specs.Matrix.{dct_entry}
