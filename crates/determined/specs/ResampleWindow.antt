@@ -16,6 +16,12 @@ weight-one κs a x y p q i = (one p q i, x.1)
 pub window-taps-one : Determined resample_window.Window.taps.ended proved.Window.taps.Reads.Post
 window-taps-one κs a x y p q i = (one p q i, x.1)
 
+pub count-one : Determined resample_window.count.ended proved.count.Reads.Post
+count-one κs a x y p q i = (one p q i, x.1)
+
+pub nth-one : Determined resample_window.nth.ended proved.nth.Reads.Post
+nth-one κs a x y p q i = (one p q i, x.1)
+
 pub is-side-one : Determined resample_window.is_side.ended proved.is_side.Reads.Post
 is-side-one κs a x y p q i = (one p q i, x.1)
 

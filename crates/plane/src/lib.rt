@@ -103,7 +103,8 @@ fn vote(plane: &[f32], b: usize, u: [f32; 4], transform: &Transform) -> f32
     block_vote(&values, u)
 }
 
-// The vote of each block of the plane.
+// The vote of each block of the plane. Not inlined, so that it takes no stack while a reader makes the plane.
+#[inline(never)]
 pub fn block_soft(plane: &[f32]) -> [f32; BLOCKS]
     requires { length plane.now ≡ plane_size }
     ensures { result ≡ votes_of plane.now }

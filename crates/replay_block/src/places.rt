@@ -48,11 +48,11 @@ pub fn stores(mut case: Fields<'_>) -> Option<bool> {
     let mut values = [0.0; 64];
     fill(&mut values, new_value);
     block::store_block(&mut plane, b, &values);
-    let changed = plane
-        .iter()
-        .enumerate()
-        .filter(|(place, value)| **value != number_of(*place))
-        .count();
+    // A sum of bits, since `filter` and `count` branch at each place, which takes twice as long.
+    let changed = plane.iter().enumerate().fold(
+        0u32,
+        |n, (place, value)| n.wrapping_add(u32::from(*value != number_of(place))),
+    );
     let placed = expected.as_chunks().0.iter().zip(&values).all(|(place, value)| plane.get(
         usize::from(u16::from_be_bytes(*place)),
     ) == Some(value));

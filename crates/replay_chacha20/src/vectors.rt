@@ -4,6 +4,9 @@ use crate::{apply, array, report};
 use replay_lists::cases::Fields;
 use std::io;
 
+// Room for a message.
+const ROOM: usize = 4096;
+
 // A vector's name, and what both functions take: the key and the nonce in hexadecimal, and the counter.
 struct Vector<'a> {
     name: &'a str,
@@ -23,22 +26,23 @@ impl Vector<'_> {
         Some(chacha20::block(&key, self.counter, &nonce) == array(expected)?)
     }
 
-    fn replay_message(
-        &self,
-        rt: &(impl Print + AllocGlobal),
-        message: &[u8],
-        expected: &[u8],
-    ) -> io::Result<()> {
-        let mut text = message.to_vec(rt.alloc())?;
-        let right = self.is_message(&mut text, message, expected);
-        report(rt, self.name, right == Some(true))
+    fn replay_message(&self, rt: &impl Print, message: &[u8], expected: &[u8]) -> io::Result<()> {
+        report(
+            rt,
+            self.name,
+            self.is_message(message, expected) == Some(true),
+        )
     }
 
-    // Whether the text, which is the message, goes to what is expected, with the position after it as the answer, and back again.
-    fn is_message(&self, text: &mut [u8], message: &[u8], expected: &[u8]) -> Option<bool> {
+    // Whether the message goes to what is expected, with the position after it as the answer, and back again. None too where it
+    // has no room.
+    fn is_message(&self, message: &[u8], expected: &[u8]) -> Option<bool> {
         let key = array(self.key)?;
         let nonce = array(self.nonce)?;
-        let mut room = [0; 4096];
+        let mut room = [0; ROOM];
+        let text = room.get_mut(..message.len())?;
+        text.copy_from_slice(message);
+        let mut room = [0; ROOM];
         let expected = Fields::of(expected).bytes(&mut room)?;
         let from = 64 * u64::from(self.counter);
         let next = apply(&key, &nonce, from, text)?;
@@ -122,7 +126,7 @@ pub fn blocks(rt: &impl Print) -> io::Result<()> {
     )
 }
 
-pub fn messages(rt: &(impl Print + AllocGlobal)) -> io::Result<()> {
+pub fn messages(rt: &impl Print) -> io::Result<()> {
     Vector {
         name: "rfc 8439 2.4.2",
         key: b"000102030405060708090a0b0c0d0e0f101112131415161718191a1b1c1d1e1f",

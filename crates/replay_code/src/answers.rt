@@ -41,7 +41,7 @@ fn decodes(mut case: Fields<'_>) -> Option<bool> {
     Some(found.bytes == record && u64::from(f32_to_bits_with_nan(found.metric)) == metric)
 }
 
-pub fn replay(rt: &(impl Files + Print + Eprint + AllocGlobal)) -> io::Result<()> {
+pub fn replay(rt: &(impl Files + Print + Eprint)) -> io::Result<()> {
     replay_lists::replay_as(rt, "encode.txt", "encode", 2, encodes)?;
     replay_lists::replay_as(rt, "decode.txt", "decode", 3, decodes)
 }

@@ -13,11 +13,7 @@ fn narrow(bits: u64) -> f32 {
 }
 
 // The list in the file `name` for a call that takes one operand: the closure gives the bits of its result.
-fn one<F: Fn(u64) -> u64>(
-    rt: &(impl Files + Print + Eprint + AllocGlobal),
-    name: &str,
-    call: F,
-) -> io::Result<()>
+fn one<F: Fn(u64) -> u64>(rt: &(impl Files + Print + Eprint), name: &str, call: F) -> io::Result<()>
     requires { F.IsAlwaysCallable call }
 {
     replay_lists::replay(rt, name, 2, |mut case: Fields<'_>| {
@@ -28,7 +24,7 @@ fn one<F: Fn(u64) -> u64>(
 
 // The same for a call that takes two.
 fn two<F: Fn(u64, u64) -> u64>(
-    rt: &(impl Files + Print + Eprint + AllocGlobal),
+    rt: &(impl Files + Print + Eprint),
     name: &str,
     call: F,
 ) -> io::Result<()>
@@ -43,7 +39,7 @@ fn two<F: Fn(u64, u64) -> u64>(
 
 // The list for a call from f32 to f32.
 fn of_f32<F: Fn(f32) -> f32>(
-    rt: &(impl Files + Print + Eprint + AllocGlobal),
+    rt: &(impl Files + Print + Eprint),
     name: &str,
     call: F,
 ) -> io::Result<()>

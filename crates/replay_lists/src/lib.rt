@@ -8,55 +8,53 @@ pub mod cases;
 mod hex;
 pub mod stored;
 
-ghost use Rattle.std.specs.Prelude.{◌+◌, ◌<◌, ◌≡◌, min, cond, IfOk, IsTrue, vec_len};
+ghost use Rattle.std.specs.Prelude.{◌+◌, ◌-◌, ◌≤◌, ◌≡◌, min, cond, length, IfOk};
+ghost use Rattle.std.specs.Io.{ReadsAtMost};
 
 use cases::{Cases, Fields};
 use std::io::Read;
 use std::rt::Files;
 use std::{fs, io};
 
-// One byte less than this is the longest list that is taken.
-const ROOM: usize = 262144;
-
-// The text of the list in the file: nothing, with a word on standard error, where it cannot be read or has no room.
-// An error is that of writing this word.
-pub fn load(rt: &(impl Files + Eprint + AllocGlobal), path: &str) -> io::Result<Vec<u8>>
-    ensures { IfOk result (λ text. vec_len text < 262144) }
+// Room for a list: one byte less than this is the longest that is taken.
+pub fn room() -> [u8; 262144]
+    ensures { 262144 ≡ length result }
 {
-    let mut text = Vec::new(rt.alloc());
-    if read_into(rt, path, &mut text)? {
-        return Ok(text);
-    }
-    Ok(Vec::new(rt.alloc()))
+    [0; 262144]
 }
 
-// Reads the file behind what `text` holds, and answers whether it was read whole and has room. Where not, a word on standard
-// error says why, and `text` has what was read.
-pub fn read_into(
-    rt: &(impl Files + Eprint + AllocGlobal),
-    path: &str,
-    text: &mut Vec<u8>,
-) -> io::Result<bool>
-    ensures { IfOk result (λ whole. IsTrue whole → vec_len text.new < vec_len text.old + 262144) }
+// The text of the list in the file: nothing, with a word on standard error, where it cannot be read or has no room. The room
+// has what was read all the same. An error is that of writing this word.
+pub fn load<'a>(rt: &(impl Files + Eprint), path: &str, room: &'a mut [u8]) -> io::Result<&'a [u8]>
+    ensures { IfOk result (λ text. length text.now ≤ length room.old - 1) }
 {
-    match read_room(rt, path, text) {
-        Ok(count) if count < ROOM => Ok(true),
-        Ok(_) => {
-            eprintln!(rt; "a list has no room")?;
-            Ok(false)
-        }
-        Err(error) => {
-            eprintln!(rt; "{path}: {error}")?;
-            Ok(false)
-        }
+    match read_file(rt, path, room) {
+        Ok(count) if count < room.len() => return Ok(&room[..count]),
+        Ok(_) => eprintln!(rt; "a list has no room")?,
+        Err(error) => eprintln!(rt; "{path}: {error}")?,
     }
+    Ok(&[])
 }
 
-// Reads until the room is full or the file ends, and answers how many bytes that were.
-fn read_room(files: &impl Files, path: &str, text: &mut Vec<u8>) -> io::Result<usize>
-    ensures { IfOk result (λ count. vec_len text.new ≡ vec_len text.old + count) }
+fn read_file(files: &impl Files, path: &str, room: &mut [u8]) -> io::Result<usize>
+    ensures { ReadsAtMost result room.new }
 {
-    fs::open(files, path)?.take(ROOM as u64).read_to_end(text)
+    read_full(&mut fs::open(files, path)?, room)
+}
+
+// Reads until the room is full or the input ends, and answers how many bytes stand at its start.
+fn read_full(input: &mut impl Read, room: &mut [u8]) -> io::Result<usize>
+    ensures { ReadsAtMost result room.new }
+{
+    let mut count = 0;
+    while count < room.len() {
+        let more = input.read(&mut room[count..])?;
+        if more == 0 {
+            break;
+        }
+        count += more;
+    }
+    Ok(count)
 }
 
 // How many cases were compared, and how many of them differ.
@@ -101,7 +99,7 @@ pub fn compare<F: FnMut(Fields<'_>) -> Option<bool>>(cases: Cases<'_>, mut agree
 
 // Replays the list in the file `path`, of cases of `size` fields, under the file's name.
 pub fn replay<F: FnMut(Fields<'_>) -> Option<bool>>(
-    rt: &(impl Files + Print + Eprint + AllocGlobal),
+    rt: &(impl Files + Print + Eprint),
     path: &str,
     size: usize,
     agrees: F,
@@ -113,7 +111,7 @@ pub fn replay<F: FnMut(Fields<'_>) -> Option<bool>>(
 
 // The same under the name `name`.
 pub fn replay_as<F: FnMut(Fields<'_>) -> Option<bool>>(
-    rt: &(impl Files + Print + Eprint + AllocGlobal),
+    rt: &(impl Files + Print + Eprint),
     path: &str,
     name: &str,
     size: usize,
@@ -121,13 +119,14 @@ pub fn replay_as<F: FnMut(Fields<'_>) -> Option<bool>>(
 ) -> io::Result<()>
     requires { F.IsAlwaysCallable agrees }
 {
-    let text = load(rt, path)?;
-    compare(Cases::of(&text, size), agrees).report(rt, name)
+    let mut room = room();
+    let text = load(rt, path, &mut room)?;
+    compare(Cases::of(text, size), agrees).report(rt, name)
 }
 
 // The same where a case counts only with all its fields.
 pub fn replay_whole<F: FnMut(Fields<'_>) -> Option<bool>>(
-    rt: &(impl Files + Print + Eprint + AllocGlobal),
+    rt: &(impl Files + Print + Eprint),
     path: &str,
     name: &str,
     size: usize,
@@ -135,6 +134,7 @@ pub fn replay_whole<F: FnMut(Fields<'_>) -> Option<bool>>(
 ) -> io::Result<()>
     requires { F.IsAlwaysCallable agrees }
 {
-    let text = load(rt, path)?;
-    compare(Cases::whole(&text, size), agrees).report(rt, name)
+    let mut room = room();
+    let text = load(rt, path, &mut room)?;
+    compare(Cases::whole(text, size), agrees).report(rt, name)
 }

@@ -49,7 +49,8 @@ fn parsed(mut case: Fields<'_>) -> Option<bool> {
 
 // Whether the text is refused as too long, with its own length.
 fn is_too_long(text: &[u8]) -> bool {
-    record_build::build_record(text, None) == Err(Refusal::TextTooLong(text.len()))
+    let answer = record_build::build_record(text, None);
+    answer == Err(Refusal::TextTooLong(text.len())) && told(&answer) == (1, text.len() as u64)
 }
 
 // Lengths that a byte or two would hold as 255, 0, 32 and 0.

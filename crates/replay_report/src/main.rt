@@ -5,9 +5,10 @@
 use std::io;
 use std::rt::Files;
 
-fn file(rt: &(impl Files + Print + Eprint + AllocGlobal), path: &str) -> io::Result<()> {
-    let bytes = replay_lists::load(rt, path)?;
-    rt.write_all(report::say(&bytes).as_slice())
+fn file(rt: &(impl Files + Print + Eprint), path: &str) -> io::Result<()> {
+    let mut room = replay_lists::room();
+    let bytes = replay_lists::load(rt, path, &mut room)?;
+    rt.write_all(report::say(bytes).as_slice())
 }
 
 // One call for each file, since the comments between them say what the files are.

@@ -1,9 +1,9 @@
 // The memory that is lent. It has something in it, which is looked at after each call: the samples by their CRC-32, the work area,
 // which has room to spare, place by place.
+use crate::expected::{Expected, Refused, seen};
 use crc32::crc32;
 use picture::Picture;
 use record::Text;
-use refusal::Refusal;
 use std::num::{f32_from_bits_with_nan, f32_to_bits_with_nan};
 
 // Samples of four channels, and of three.
@@ -25,12 +25,12 @@ pub fn refuses_to_write(
     work: &mut [f32],
     picture: Picture,
     text: &[u8],
-    refusal: Refusal,
+    (refusal, number, given): Refused,
 ) -> bool {
     lend(work);
     let before = crc32(samples);
     let answer = resilient::write(samples, picture, text, None, work);
-    answer == Err(refusal) && crc32(samples) == before && is_as_lent(work)
+    seen(answer) == (Err(refusal), number, given) && crc32(samples) == before && is_as_lent(work)
 }
 
 // The same of reading.
@@ -38,23 +38,18 @@ pub fn refuses_to_read(
     samples: &[u8],
     work: &mut [f32],
     picture: Picture,
-    refusal: Refusal,
+    (refusal, number, given): Refused,
 ) -> bool {
     lend(work);
     let answer = resilient::read(samples, picture, None, work);
-    answer == Err(refusal) && is_as_lent(work)
+    seen(answer) == (Err(refusal), number, given) && is_as_lent(work)
 }
 
 // Whether samples, of a picture that is not refused, are read so: the work area is used, whatever the record says.
-pub fn reads(
-    samples: &[u8],
-    work: &mut Work,
-    picture: Picture,
-    expected: Result<Text, Refusal>,
-) -> bool {
+pub fn reads(samples: &[u8], work: &mut Work, picture: Picture, expected: Expected<Text>) -> bool {
     lend(work);
     let answer = resilient::read(samples, picture, None, work);
-    answer == expected && is_used(work)
+    seen(answer) == expected && is_used(work)
 }
 
 // The sample at a place, by the formula that the list was made with.

@@ -4,6 +4,7 @@
 // lent with something in it and looked at after each call.
 #![tactic(auto)]
 
+mod expected;
 mod lent;
 mod limits;
 mod marks;
@@ -30,7 +31,7 @@ fn square(channels: usize) -> Picture {
 
 // Lent as arrays the two areas have their lengths by type.
 fn run(
-    rt: &(impl Files + Print + Eprint + AllocGlobal),
+    rt: &(impl Files + Print + Eprint),
     samples: &mut Samples,
     work: &mut Work,
 ) -> io::Result<()> {

@@ -95,7 +95,7 @@ fn agrees(case: &Case<'_>, samples: &mut Samples, work: &mut Work) -> bool {
 
 // The list in the file `name`. A case counts only with all its ten fields.
 pub fn list(
-    rt: &(impl Files + Print + Eprint + AllocGlobal),
+    rt: &(impl Files + Print + Eprint),
     name: &str,
     samples: &mut Samples,
     work: &mut Work,

@@ -1,4 +1,5 @@
 // Pictures of a few pixels and damaged ones, and votes under a key.
+use crate::expected::{Expected, seen};
 use crate::lent::{Samples, THREE, Work, draw, reads};
 use crate::{shape, square};
 use extract::read_votes;
@@ -12,12 +13,12 @@ use std::rt::Files;
 // The text that is written into the picture that is damaged, and laid over the votes.
 const TEXT: &[u8] = b"Svalbard pass 4711";
 
-fn text() -> Text {
-    Text::new(TEXT)
+fn marked() -> Expected<Text> {
+    (Ok(Text::new(TEXT)), 0, 0)
 }
 
-fn unmarked() -> Result<Text, Refusal> {
-    Err(Refusal::NoWatermark)
+fn unmarked() -> Expected<Text> {
+    (Err(Refusal::NoWatermark), 8, 0)
 }
 
 // Pictures of a few pixels have all the blocks, and no mark in them.
@@ -40,7 +41,7 @@ fn damaged(t: &mut Tally, samples: &mut Samples, w: &mut Work) {
     let s = &mut samples[..THREE];
     let _ = resilient::write(s, square(3), TEXT, None, w);
     coarsen(s, 0xc0);
-    t.count(reads(s, w, square(3), Ok(text())));
+    t.count(reads(s, w, square(3), marked()));
     coarsen(s, 0x80);
     t.count(reads(s, w, square(3), unmarked()));
 }
@@ -59,20 +60,20 @@ fn with_keys(votes: &[f32]) -> Tally {
         bytes: *b"\x66\x3e\x52\x8c\xaa\xab\x0d\xa3\xdd\xb3\x79\x35\x3b\xa6\xc1\x00\x19\x82\x7d\x44\x70\xf1\xb0\x0f\x55\x37\x41\xb3\xad\x1c\x32\xb0",
     };
     let wrong = Key { bytes: [0; 32] };
-    let damaged = Err(Refusal::WrongPasswordOrDamaged);
-    let required = Err(Refusal::PasswordRequired(0xeec1_11a4));
+    let damaged = (Err(Refusal::WrongPasswordOrDamaged), 13, 0);
+    let required = (Err(Refusal::PasswordRequired(0xeec1_11a4)), 11, 0xeec1_11a4);
     let mut tally = Tally::default();
-    tally.count(read_votes(votes, Some(right)) == Ok(text()));
-    tally.count(read_votes(votes, Some(wrong)) == damaged);
-    tally.count(read_votes(votes, None) == required);
+    tally.count(seen(read_votes(votes, Some(right))) == marked());
+    tally.count(seen(read_votes(votes, Some(wrong))) == damaged);
+    tally.count(seen(read_votes(votes, None)) == required);
     tally
 }
 
 // The file has a digit for each block: the bit that the Rust lays there of the text's record under the first key. A vote
 // without doubt stands for each, also where the file cannot be read to its end.
-pub fn keyed(rt: &(impl Files + Print + Eprint + AllocGlobal), name: &str) -> io::Result<()> {
-    let mut digits = Vec::new(rt.alloc());
-    replay_lists::read_into(rt, name, &mut digits)?;
+pub fn keyed(rt: &(impl Files + Print + Eprint), name: &str) -> io::Result<()> {
+    let mut digits = replay_lists::room();
+    replay_lists::load(rt, name, &mut digits)?;
     let mut votes = [1.0; BLOCKS];
     for (vote, digit) in votes.iter_mut().zip(&digits) {
         if *digit == b'1' {

@@ -28,9 +28,9 @@ fn compare(k: usize, word: Option<u64>, tally: &mut Tally)
     }
 }
 
-pub fn replay(rt: &(impl Files + Print + Eprint + AllocGlobal), name: &str) -> io::Result<()> {
-    let text = replay_lists::load(rt, name)?;
-    let mut words = Fields::of(&text);
+pub fn replay(rt: &(impl Files + Print + Eprint), name: &str) -> io::Result<()> {
+    let mut room = replay_lists::room();
+    let mut words = Fields::of(replay_lists::load(rt, name, &mut room)?);
     let mut tally = Tally::default();
     // By number, since words that are not in the list count too.
     for k in 0..2056 {

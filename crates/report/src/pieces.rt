@@ -7,8 +7,8 @@ use std::marker::Model;
 // The longest is "text 32 ", 64 digits and the line's end.
 const ROOM: usize = 73;
 
-// No `record::Text` with more room: a text has zeros behind it, which C is lent, and a line grows piece by piece.
-#[derive(Drop)]
+// A line with its end, and zeros behind it. No `record::Text` with more room: a line grows piece by piece.
+#[derive(Clone, Copy)]
 pub struct Line {
     bytes: [u8; ROOM],
     len: usize,
@@ -16,13 +16,18 @@ pub struct Line {
 
 // A contract sees the bytes that were put.
 impl Model for Line {
-    ghost use Rattle.std.specs.Prelude.{◌≤◌, ℕ, List, take};
+    ghost use Rattle.std.specs.Prelude.{◌≡◌, ◌≤◌, ◌-◌, ◌++◌, ℕ, List, length, replicate, take};
+    ghost use Rattle.report.specs.Held.{line_held};
 
     ghost Value = { List ℕ };
 
     ghost view = { λ l. take l.len l.bytes };
 
-    ghost invariant = { λ l. l.len ≤ 73 };
+    ghost invariant = { λ l. (l.len ≤ 73) × (length l.bytes ≡ 73) × (l.bytes ≡ take l.len l.bytes ++ replicate (73 - l.len) 0) };
+
+    ghost inverse = { λ line. record { bytes = line ++ replicate (73 - length line) 0; len = length line } };
+
+    ghost inverse_ok = { λ a h. line_held a h };
 }
 
 // Digits by hand, here and below: `write!` promises its bytes only where it answers Ok, and a line is promised always.

@@ -128,7 +128,9 @@ fn write_row(row: &mut [u8], channels: usize, delta: &[f32])
     }
 }
 
-// Puts a change of the plane onto the samples of a picture that is no smaller than the plane.
+// Puts a change of the plane onto the samples of a picture that is no smaller than the plane. Not inlined, so that its rows and
+// taps take no stack while a writer makes the plane.
+#[inline(never)]
 pub fn change_samples(change: &[f32], picture: Picture, samples: &mut [u8])
     requires { Sized picture.width picture.height picture.channels samples.old × (256 ≤ picture.width) × (256 ≤ picture.height)
         × (length change.now ≡ plane_size) }

@@ -3,7 +3,7 @@
 // specs/Window.antt; what bounds a window, its taps and its weights is the crate `resample_window_laws`.
 #![tactic(auto)]
 
-ghost use Rattle.std.specs.Prelude.{◌≡◌, ◌+◌, ◌^◌, ◌<◌, ◌≤◌, length, Option};
+ghost use Rattle.std.specs.Prelude.{◌≡◌, ◌+◌, ◌^◌, ◌<◌, ◌≤◌, length, Option, pos, ◌+ℤ◌};
 ghost use Rattle.std.proofs.Math.Seq.{paste};
 ghost use Rattle.std.specs.Int.Signed.{mag};
 ghost use Rattle.seq.specs.Lists.{filled};
@@ -95,6 +95,25 @@ impl Window {
             ..self
         }
     }
+}
+
+// How many source numbers there are from first to last.
+pub fn count(first: i64, last: i64) -> usize
+    requires { (mag first < 2 ^ 30) × (mag last < 2 ^ 30) }
+    ensures { result ≡ numbers first last }
+{
+    if last < first {
+        return 0;
+    }
+    (last - first) as usize + 1
+}
+
+// Number k of those from first on.
+pub fn nth(first: i64, k: usize) -> i64
+    requires { (mag first < 2 ^ 30) × (k ≤ 2 ^ 32) }
+    ensures { result ≡ first +ℤ pos k }
+{
+    first + k as i64
 }
 
 // A side that a picture may have.

@@ -7,4 +7,4 @@ use Rattle.block.proofs.store_block.Given as goal
 
 abbrev pub invariant-loop-r : goal.invariant-loop-r
 invariant-loop-r l =
-    (l.r ≤ 8) × (length l.plane ≡ length l.initial.plane) × (l.plane ≡ pasted 8 (line_at l.b) (block_line (cell l.values)) l.r l.initial.plane)
+    (l.r-counter ≤ 8) × (length l.plane ≡ length l.initial.plane) × (l.plane ≡ pasted 8 (line_at l.b) (block_line (cell l.values)) l.r-counter l.initial.plane)
