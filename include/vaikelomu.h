@@ -16,7 +16,7 @@
  * Answers. Each function answers 0 (VAIKELOMU_DONE), or the number of the first refusal that applies. It
  * always sets *given: to the number that goes with the refusal, or to 0.
  *
- * Stack. Writing needs about 308 KiB of it, reading a picture 305 KiB and reading votes 17 KiB, whatever the
+ * Stack. Writing needs about 308 KiB of it, reading a picture 308 KiB and reading votes 21 KiB, whatever the
  * picture's size (measured: docs/BENCH.md). Give threads that much and some to spare.
  * No state is shared: calls may run at the same time where none writes to memory that another is lent.
  *
