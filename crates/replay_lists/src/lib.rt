@@ -109,7 +109,8 @@ pub fn replay<F: FnMut(Fields<'_>) -> Option<bool>>(
     replay_as(rt, path, path, size, agrees)
 }
 
-// The same under the name `name`.
+// The same under the name `name`. Not inlined, here and below: a caller of several lists would hold a room for each.
+#[inline(never)]
 pub fn replay_as<F: FnMut(Fields<'_>) -> Option<bool>>(
     rt: &(impl Files + Print + Eprint),
     path: &str,
@@ -125,6 +126,7 @@ pub fn replay_as<F: FnMut(Fields<'_>) -> Option<bool>>(
 }
 
 // The same where a case counts only with all its fields.
+#[inline(never)]
 pub fn replay_whole<F: FnMut(Fields<'_>) -> Option<bool>>(
     rt: &(impl Files + Print + Eprint),
     path: &str,
